@@ -10,6 +10,8 @@ from matplotlib import pyplot as plt  # noqa: E402
 
 from . import files  # noqa: E402
 
+__all__ = ["FAINT", "INK", "STYLE", "UNDATED", "plt", "save"]
+
 INK, FAINT = "#22262a", "#8a9299"
 STYLE = {
     "svg.fonttype": "none",

@@ -20,7 +20,8 @@ def asked(program: Path, question: str, seconds: float) -> tuple[int | None, int
     none can be asked for."""
     ran = subprocess.run([program, "band"], input=question.encode(), capture_output=True, timeout=seconds)
     found = read_bands(ran.stdout.decode(errors="replace")) if ran.returncode == 0 else None
-    return tuple(it.width if it else 0 for it in found) if found else (None, None)
+    outbound, inbound = (it.width if it else 0 for it in found) if found else (None, None)
+    return outbound, inbound
 
 
 def planned(program: Path, scenario: dict[str, Any], street: Street, seconds: float) -> tuple[int | None, int | None]:

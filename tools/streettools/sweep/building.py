@@ -65,10 +65,9 @@ class Builder:
         if base is not None:
             return parsed(self.fetch(base), base)
         found: Base = self.study.base
-        if found.kind is BaseKind.SCENARIO:
-            return parsed(self.fetch(found.file), found.file)
-        if found.kind is BaseKind.FIELD:
-            return parsed(self.asked(["respond"], self.fetch(found.file)), found.file)
+        if found.file is not None:
+            text = self.fetch(found.file)
+            return parsed(self.asked(["respond"], text) if found.kind is BaseKind.FIELD else text, found.file)
         words = found.words | ({} if seed is None else {"seed": seed})
         given = [word for name in ("seed", "cabinets", "rounds") for word in (f"--{name}", str(words[name]))]
         return parsed(self.asked(["generate", *given], b""), "generate")

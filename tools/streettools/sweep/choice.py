@@ -35,7 +35,7 @@ class Column:
                 parts: list[Any] = [counts.street]
             case Scope.CABINET:
                 parts = [it for cabinet, it in counts.cabinets.items() if self.cabinet in (None, cabinet)]
-            case Scope.PHASE if None not in (self.cabinet, self.phase):
+            case Scope.PHASE if self.cabinet is not None and self.phase is not None:
                 parts = [counts.phases[place]] if (place := (self.cabinet, self.phase)) in counts.phases else []
             case Scope.PHASE:
                 parts = [it for (cabinet, phase), it in counts.phases.items()

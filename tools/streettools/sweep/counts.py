@@ -31,7 +31,8 @@ class Spread:
         there = [it for it in parts if it.count]
         if not there:
             return Spread()
-        least, greatest = min(it.least for it in there), max(it.greatest for it in there)
+        least = min(it.least for it in there if it.least is not None)
+        greatest = max(it.greatest for it in there if it.greatest is not None)
         return Spread(sum(it.count for it in there), sum(it.total for it in there), least, greatest)
 
 

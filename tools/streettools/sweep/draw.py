@@ -2,6 +2,7 @@
 
 import argparse
 from pathlib import Path
+from typing import Any
 
 from ..shared.commandline import Parser, add_output
 from ..shared.fault import Fault
@@ -17,7 +18,9 @@ examples:
 class Wanted(argparse.Action):
     """Keeps the measures of a frontier in their order, each with whether the lowest or the highest value is best."""
 
-    def __call__(self, parser, space, value, option=None):
+    def __call__(
+        self, parser: argparse.ArgumentParser, space: argparse.Namespace, value: Any, option: str | None = None
+    ) -> None:
         space.wanted = [*(space.wanted or []), (value, 1 if option == "--least" else -1)]
 
 

@@ -19,7 +19,8 @@ class Journal:
     """The runs that are done, by their keys. What was measured stays on the disk."""
 
     def __init__(self, path: Path, anew: bool) -> None:
-        self.path, self.places = path, {}
+        self.path = path
+        self.places: dict[str, int] = {}
         try:
             self.file = open(path, "r+b" if path.exists() else "w+b")
             fcntl.flock(self.file, fcntl.LOCK_EX | fcntl.LOCK_NB)
@@ -83,7 +84,8 @@ class Journal:
     def row(self, key: str) -> list[Any]:
         """Returns what came of a run."""
         self.file.seek(self.places[key])
-        return json.loads(self.file.readline())["row"]
+        row: list[Any] = json.loads(self.file.readline())["row"]
+        return row
 
     def close(self, remove: bool = False) -> None:
         """Closes the file, and takes it away where it is no longer needed."""

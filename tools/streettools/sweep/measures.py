@@ -1,7 +1,7 @@
 """The measures that are built in: each with its unit, its definition, and how it comes from what was counted."""
 
 import enum
-from collections.abc import Callable
+from collections.abc import Callable, Iterable
 from dataclasses import dataclass
 from typing import Any
 
@@ -42,14 +42,24 @@ class Measure:
     part: Part | None = None
 
 
+def summed(numbers: Iterable[float]) -> float:
+    """Returns the sum of numbers; that of whole numbers is whole."""
+    return sum(numbers)
+
+
+def greatest(numbers: Iterable[float]) -> float:
+    """Returns the greatest of numbers."""
+    return max(numbers)
+
+
 def count(name: str) -> Callable[[list[Any]], Value]:
     """Returns the sum of a count."""
-    return lambda parts: sum(getattr(it, name) for it in parts)
+    return lambda parts: summed(getattr(it, name) for it in parts)
 
 
 def ended(word: str) -> Callable[[list[Any]], Value]:
     """Returns how many greens ended in a way."""
-    return lambda parts: sum(it.endings[word] for it in parts)
+    return lambda parts: summed(it.endings[word] for it in parts)
 
 
 def share(part: str, whole: str) -> Callable[[list[Any]], Value]:
@@ -71,7 +81,7 @@ def spread(name: str, which: str, scale: int = 10) -> Callable[[list[Any]], Valu
             return None
         if which == "mean":
             return round(found.total / found.count / scale, 3)
-        length = getattr(found, which)
+        length: int = getattr(found, which)
         return length if scale == 1 else length / scale
 
     return value
@@ -199,7 +209,7 @@ CABINET = [
         Scope.CABINET,
         "pickups",
         "pickups after which no local zero was on the offset",
-        lambda parts: sum(it.pickups - it.cycles.count for it in parts),
+        lambda parts: summed(it.pickups - it.cycles.count for it in parts),
         Part.CYCLES,
     ),
     Measure(
@@ -287,7 +297,7 @@ TRAFFIC = [
         Scope.TRAFFIC,
         "h",
         "delay of all vehicles at the stop line together",
-        lambda parts: round(sum(it.delay for it in parts) / 3600, 3),
+        lambda parts: round(summed(it.delay for it in parts) / 3600, 3),
     ),
     Measure("stops_mean", Scope.TRAFFIC, "stops", "stops of a vehicle at the stop line", rate("stops", "vehicles")),
     Measure(
@@ -309,7 +319,7 @@ TRAFFIC = [
         Scope.TRAFFIC,
         "vehicles",
         "maximum number of vehicles in a queue",
-        lambda parts: max(it.queue_greatest for it in parts),
+        lambda parts: greatest(it.queue_greatest for it in parts),
     ),
     Measure("queue_left", Scope.TRAFFIC, "vehicles", "vehicles in the queue at the end of the run", count("left")),
     Measure(

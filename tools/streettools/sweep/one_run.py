@@ -21,7 +21,9 @@ from .counts import RunCounts, StreetCounts
 from .measures import Scope
 from .needs import Needs
 from .own import Own
+from .queued import Queued
 from .sensed import Sensed
+from .study import Street
 from .tally import CabinetTally
 from .variants import Variant
 
@@ -100,7 +102,7 @@ class Runner:
             built = self.made(variant)
             name = built.name()
             if built.queued:
-                return [Outcome.DONE.value, None, name, *self.queued(built)]
+                return [Outcome.DONE.value, None, name, *self.queued(built, built.queued)]
             with kept(built.text) as given, kept() as trace:
                 refusal = self.trace(given, trace)
                 if refusal is not None:
@@ -129,11 +131,11 @@ class Runner:
         self.checked(trace)
         return None
 
-    def queued(self, built: Built) -> list[Any]:
+    def queued(self, built: Built, demand: Queued) -> list[Any]:
         """Runs a variant with the vehicles of its volumes, and returns its measures."""
         try:
             terms = queued.Terms(self.start, time.monotonic() + self.seconds, self.looks)
-            ran = queued.run(self.program, built.scenario, built.queued, terms)
+            ran = queued.run(self.program, built.scenario, demand, terms)
         except Fault as fault:
             if fault.status is Status.REFUSED:
                 raise
@@ -180,7 +182,7 @@ class Runner:
         """Returns the measures of a run."""
         counts = self.counted(built, trace) if self.columns else RunCounts({}, {}, StreetCounts())
         counts.traffic = traffic or {}
-        found = [it.value(counts) for it in self.columns]
+        found: list[int | float | str | None] = [it.value(counts) for it in self.columns]
         trace.seek(0)
         text = trace.read() if self.own else b""
         for function in self.own:
@@ -204,14 +206,14 @@ class Runner:
         numbers = range(1, len(scenario["cabinets"]) + 1)
         tallies = {number: CabinetTally(scenario, number, self.start, self.needs, sensed) for number in numbers}
         enabled = {number: it.cabinet.tables.enabled() for number, it in tallies.items()}
-        street = self.street_of(built, tallies) if self.street else None
+        street = self.street_of(built, built.street, tallies) if self.street and built.street else None
         try:
             self.follow(trace, tallies)
         except (ValueError, KeyError, NotATrace):
             raise Failed("the program wrote a line that is none of a trace") from None
         cabinets = {number: it.close(last) for number, it in tallies.items()}
         seen = street.close(last) if street else StreetCounts()
-        if self.planned:
+        if self.planned and built.street:
             seen.planned = bands.planned(self.program, scenario, built.street, self.seconds)
         phases = {
             (number, phase): it.phases[phase].close(last)
@@ -221,10 +223,10 @@ class Runner:
         }
         return RunCounts(phases, cabinets, seen)
 
-    def street_of(self, built: Built, tallies: dict[int, CabinetTally]) -> bands.StreetTally:
+    def street_of(self, built: Built, its: Street, tallies: dict[int, CabinetTally]) -> bands.StreetTally:
         """Returns the street of a run, whose greens its cabinets tell."""
         cabinets = {number: it.cabinet for number, it in tallies.items()}
-        street = bands.StreetTally(built.street, cabinets, built.scenario, self.start)
+        street = bands.StreetTally(its, cabinets, built.scenario, self.start)
         for number, greens in street.greens.items():
             tallies[number].street = greens
         return street

@@ -27,7 +27,8 @@ class Own:
             raise Fault(f"{self.file}: {type(fault).__name__}: {fault}") from None
         if not callable(space.get(self.function)):
             raise Fault(f"{self.file} has no function {self.function}")
-        return space[self.function]
+        found: Callable[[Any], Any] = space[self.function]
+        return found
 
 
 def own_of(given: Given, fetch: Callable[[str], bytes]) -> Own:

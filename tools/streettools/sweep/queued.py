@@ -81,4 +81,5 @@ def counted(ran: queue_study.Ran) -> dict[tuple[int, int], Count]:
 
 def scenario_of(trace: bytes) -> dict[str, Any]:
     """Returns the scenario of a trace: the variant's, with what the session brought."""
-    return json.loads(trace[2 : trace.index(b"\n")])
+    found: dict[str, Any] = json.loads(trace[2 : trace.index(b"\n")])
+    return found

@@ -87,7 +87,8 @@ class Sensed:
     """All that comes from the street in a run."""
 
     def __init__(self, streams: Iterable[Stream], ticks: int) -> None:
-        self.ticks, self.found = ticks, {}
+        self.ticks = ticks
+        self.found: dict[tuple[int, str, int], list[Stream]] = {}
         for it in streams:
             self.found.setdefault((it.cabinet, it.kind, it.phase), []).append(it)
 

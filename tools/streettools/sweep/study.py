@@ -107,8 +107,9 @@ def parameter_of(given: Given, fetch: Fetch) -> Parameter:
     if len({it.name for it in options}) < len(options):
         raise given.refuse("option", "has two of one name")
     values = values_of(given, name, kind, options)
+    puts: tuple[Put, ...] = ()
     if kind is Kind.OPTION:
-        puts = ()
+        pass
     elif "put" in given.table:
         puts = given.each("put", put_of)
     else:

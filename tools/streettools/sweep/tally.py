@@ -134,7 +134,8 @@ class CabinetTally:
         self.row: Row | None = None
         self.mode, self.since = b"S", 0
         self.picked: tuple[int, int] | None = None
-        self.zeros, self.failed = 0, None
+        self.zeros = 0
+        self.failed: int | None = None
 
     def follows_tables(self) -> None:
         """Takes over what the tables in force say of calls."""

@@ -37,7 +37,7 @@ class Put:
 
     def told(self) -> str:
         """Returns the place in words."""
-        return self.path or f"the cell {list(self.cell)}"
+        return self.path or f"the cell {list(self.cell or ())}"
 
     def value(self, value: Any) -> Any:
         """Returns what comes to the place."""
@@ -49,7 +49,7 @@ class Put:
 
     def put(self, document: dict[str, Any], value: Any) -> None:
         """Puts a value into the scenario and the tables beside it."""
-        if self.cell is None:
+        if self.path is not None:
             put_at(document, self.path, self.value(value))
             return
         cabinets = document["scenario"]["cabinets"]
@@ -57,7 +57,7 @@ class Put:
             if number > len(cabinets):
                 raise Fault(f"study: {self.told()}: the scenario has no cabinet {number}")
             it = cabinets[number - 1]
-            it["cells"] = [*it.get("cells", ()), [*self.cell, self.value(value)]]
+            it["cells"] = [*it.get("cells", ()), [*(self.cell or ()), self.value(value)]]
 
 
 def steps(path: str) -> list[str | int]:

@@ -98,11 +98,11 @@ def with_notes(block: bytes, number: int) -> Iterator[Row | Said | Over]:
     found = ROWS.findall(block)
     if sum(not it[8] for it in found) != block.count(b"\nF"):
         raise ValueError
-    for *row, other in found:
-        if not other:
-            yield tuple(row)
+    for row in found:
+        if not row[8]:
+            yield row[:8]
             continue
-        record = lines.record(other + b"\n")
+        record = lines.record(row[8] + b"\n")
         if isinstance(record, Round):
             number = record.number
         elif isinstance(record, Load):

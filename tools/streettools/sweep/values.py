@@ -59,21 +59,27 @@ class Values:
     steps: Steps | None = None
     options: tuple[Option, ...] = field(default=())
 
+    def stepped(self) -> Steps:
+        """Returns the numbers of a range, and those from which random values are taken."""
+        assert self.steps is not None
+        return self.steps
+
     def count(self) -> int:
         """Returns how many values there are; random ones are counted by the study's samples."""
         if self.kind is Kind.RANGE:
-            return self.steps.count()
+            return self.stepped().count()
         return len(self.listed or self.options)
 
     def at(self, index: int) -> Any:
         """Returns a value by its place."""
         if self.kind is Kind.RANGE:
-            return self.steps.at(index)
+            return self.stepped().at(index)
         return self.options[index] if self.kind is Kind.OPTION else self.listed[index]
 
     def drawn(self, seed: int, sample: int) -> Any:
         """Returns the random value of a sample."""
-        return self.steps.at(random.Random(f"{seed}/{self.name}/{sample}").randrange(self.steps.count()))
+        steps = self.stepped()
+        return steps.at(random.Random(f"{seed}/{self.name}/{sample}").randrange(steps.count()))
 
 
 def steps_of(given: Given) -> Steps:
