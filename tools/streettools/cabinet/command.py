@@ -12,13 +12,13 @@ from typing import Any
 from ..shared import files, saying
 from ..shared.commandline import Parser, add_program, add_renamed, number
 from ..shared.fault import Fault
-from ..shared.program import NoProgram, Refused, answering, trace_of
+from ..shared.program import Died, NoProgram, answering, trace_of
+from ..shared.session import Answer
 from ..shared.session_record import SessionRecord
 from ..shared.status import Status
 from ..street import ports
 from ..street.pace import Pace
 from ..street.record import MOST_FRAMES, MOST_SCENARIO
-from ..street.session import Answer
 from ..street.street import Hearer, Street, rounds_for
 from .alone import alone, compact, with_all
 
@@ -178,9 +178,9 @@ def main(arguments: list[str] | None = None) -> int:
             say(f"the scenario has no cabinet {words.cabinet}")
             return Status.REFUSED
         return answered(cabinet)
-    except (Refused, Fault) as fault:
+    except Fault as fault:
         say(fault)
-        return fault.status
+        return fault.program_status if isinstance(fault, Died) else fault.status
     except NoProgram as fault:
         say(fault)
         return Status.NO_PROGRAM

@@ -1,5 +1,6 @@
 """A run of SUMO under the cabinets of a session, from files to files: the trace, what SUMO wrote, the study."""
 
+import contextlib
 import json
 import pathlib
 from collections.abc import Callable
@@ -60,11 +61,8 @@ def movements_of(street: Map) -> list[Movement]:
 
 def preflight(given: Given, program: pathlib.Path) -> None:
     """Refuses a scenario that the program refuses, and a map that doesn't fit, without a run."""
-    session = Session(program, given.for_session())
-    try:
+    with Session(program, given.for_session()):
         check(given.street, given.network, given.scenario)
-    finally:
-        session.end()
 
 
 def run(given: Given, program: pathlib.Path, out: pathlib.Path, progress: Callable[[int], object]) -> Done:
@@ -89,7 +87,8 @@ def run(given: Given, program: pathlib.Path, out: pathlib.Path, progress: Callab
                 raise
             is_fault = isinstance(raised, Fault)
             fault = raised if is_fault else Fault("interrupted; what was recorded is kept", Status.INTERRUPTED)
-        session.finish()
+        with contextlib.suppress(Fault):  # the record has what came before
+            session.close()
     finally:
         session.end()
     return done(given, loop, session, types, out, fault)

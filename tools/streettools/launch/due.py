@@ -8,11 +8,12 @@ which takes the journals of the text.
 
 import os
 import re
-import subprocess
 import sys
+import tempfile
 import time
 
 from streettools.shared.independent import has_model
+from streettools.shared.program import Running, ran
 from streettools.shared.saying import say
 from streettools.shared.status import Status
 
@@ -36,19 +37,11 @@ class Untold(Exception):
 def by_program(program: str, scenario: bytes, before: bytes) -> bytes | None:
     """Returns the line that a run of the program writes behind a beginning of a trace, with its newline; the empty
     line where nothing follows, None where the run writes another beginning."""
-    with subprocess.Popen(
-        [program, "run"], stdin=subprocess.PIPE, stdout=subprocess.PIPE, stderr=subprocess.DEVNULL
-    ) as running:
-        try:
-            running.stdin.write(scenario)
-            running.stdin.close()
-            if running.stdout.read(len(before)) == before:
-                return running.stdout.readline()
-        except BrokenPipeError:
-            pass
-        finally:
-            running.kill()
-    return None
+    with tempfile.TemporaryFile() as given:
+        given.write(scenario)
+        given.seek(0)
+        with Running([program, "run"], given) as running, open(running.output(), "rb", closefd=False) as text:
+            return text.readline() if text.read(len(before)) == before else None
 
 
 def model_parts() -> tuple:
@@ -92,10 +85,10 @@ def at_opening(program: str, read: bytes) -> list[str]:
     """Returns what is said of a first line that has no scenario."""
     due = b"S and a scenario in its compact text"
     if read.startswith(b"S ") and program:
-        ran = subprocess.run([program, "run"], input=read[2:], capture_output=True)
-        if ran.returncode:
-            return [shown(read, b"")[0], f"its scenario is refused: {ran.stderr.decode(errors='replace').strip()}"]
-        due = ran.stdout.partition(b"\n")[0]
+        answer = ran(program, "run", given=read[2:])
+        if answer.status:
+            return [shown(read, b"")[0], f"its scenario is refused: {answer.said}"]
+        due = answer.out.partition(b"\n")[0]
     return shown(read, due) if read else [ENDED, shown(due, due)[1]]
 
 

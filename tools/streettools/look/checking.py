@@ -2,14 +2,11 @@
 shown."""
 
 import os
-from typing import TYPE_CHECKING, BinaryIO
+from typing import BinaryIO
 
 from ..shared import program
 from ..shared.fault import Fault
 from ..shared.saying import say
-
-if TYPE_CHECKING:
-    import subprocess
 
 NO_TRACE = 5
 """The program's exit status if a text is no trace."""
@@ -21,7 +18,7 @@ class Check:
 
     def __init__(self, file: BinaryIO, called: str) -> None:
         self.called = called
-        self.process: "subprocess.Popen[bytes] | None" = None
+        self.running: program.Running | None = None
         try:
             command = program.command("check")
         except program.NoProgram:
@@ -41,19 +38,17 @@ class Check:
 
         try:
             os.lseek(text, start, os.SEEK_SET)
-            self.process = subprocess.Popen(
-                command, stdin=text, stdout=subprocess.DEVNULL, stderr=subprocess.PIPE
-            )
+            self.running = program.Running(command, text, subprocess.DEVNULL)
         finally:
             os.close(text)
 
     def told(self) -> None:
         """Waits for the end, and reports what was found; a text that is no trace is refused. A second call does
         nothing."""
-        if self.process is None:
+        if self.running is None:
             return
-        line = self.process.communicate()[1].decode(errors="replace").strip()
-        status, self.process = self.process.returncode, None
+        status, _, line = self.running.ended()
+        self.running = None
         if status == 0:
             say("look", f"checked: {self.called} is a trace")
         elif status == NO_TRACE and line != TOO_LONG:
@@ -63,7 +58,6 @@ class Check:
 
     def end(self) -> None:
         """Ends it, if nobody has waited for it."""
-        if self.process is not None:
-            self.process.kill()
-            self.process.communicate()
-            self.process = None
+        if self.running is not None:
+            self.running.end()
+            self.running = None

@@ -2,10 +2,9 @@
 way to the next intersection takes."""
 
 import json
-import subprocess
 from collections.abc import Iterator
 
-from ..shared.program import NoProgram, found
+from ..shared.program import NoProgram, found, ran
 from ..shared.cells import tables_of
 from .findings import Finding, Level, Rank
 from .reading import Street
@@ -41,11 +40,9 @@ def findings(street: Street, path: str | None) -> Iterator[Finding]:
     scenario = {name: street.scenario[name] for name in ("version", "rounds", "ticks", "cabinets")}
     for section, pattern, numbers, travel in asked:
         question = {"scenario": scenario, "section": section, "pattern": pattern, "travel": travel}
-        ran = subprocess.run(
-            [program, "band"], input=json.dumps(question).encode(), capture_output=True, timeout=SECONDS
-        )
-        lines = ran.stdout.decode().split("\n")
-        if ran.returncode == 0 and len(lines) > 1:
+        answer = ran(program, "band", given=json.dumps(question).encode(), seconds=SECONDS)
+        lines = answer.out.decode().split("\n")
+        if answer.status == 0 and len(lines) > 1:
             yield from told(street, section, pattern, numbers, lines)
 
 

@@ -223,24 +223,3 @@ class SessionRecord:
         yield b"S " + compact(self.resulting()) + b"\n"
         for line in self.lines:
             yield line + b"\n"
-
-
-def answers_of(output: bytes) -> list[list[bytes]]:
-    """Returns the answers of a session, each as its lines without the dot."""
-    answers: list[list[bytes]] = [[]]
-    for line in output.split(b"\n")[:-1]:
-        if line == b".":
-            answers.append([])
-        else:
-            answers[-1].append(line)
-    return answers[:-1]
-
-
-def trace_of_session(dialogue: bytes, output: bytes, keeps_reads: bool = True) -> bytes:
-    """Returns the trace of a session by its whole input and its whole output."""
-    first, *requests = dialogue.split(b"\n")
-    record = SessionRecord(json.loads(first), keeps_reads)
-    asked = [None, *requests[:-1], None]
-    for request, answer in zip(asked, answers_of(output)):
-        record.answered(request, answer)
-    return b"".join(record.trace())

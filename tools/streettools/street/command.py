@@ -7,21 +7,19 @@ import json
 import pathlib
 import signal
 import socket
-import subprocess
 import sys
 from dataclasses import dataclass
 from typing import Any
 
 from ..shared import saying
 from ..shared.fault import Fault
-from ..shared.program import NoProgram, answering
+from ..shared.program import NoProgram, answering, ran
 from ..shared.status import Status
 from . import ports, words
 from .ntcip.front import Fronts
 from .pace import Pace
 from .record import Recorder, read_requests
 from .replay import Replay
-from .session import Died
 from .street import Hearer, Street
 
 OPEN = "warning: whoever reaches {} can read and change these cabinets: the protocol has no protection"
@@ -48,9 +46,7 @@ class Telling(Hearer):
 
 def scenario_of(program: pathlib.Path, text: bytes) -> dict[str, Any]:
     """Returns the scenario that a text is, once the program has opened a session with it."""
-    ran = subprocess.run([program, "live"], input=text, stdout=subprocess.DEVNULL, stderr=subprocess.PIPE)
-    if ran.returncode:
-        raise Died(ran.stderr, ran.returncode)
+    ran(program, "live", given=text).done()
     scenario: dict[str, Any] = json.loads(text)
     return scenario
 

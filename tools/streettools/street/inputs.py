@@ -6,7 +6,7 @@ A push button has no state: it is pressed, and that is all.
 from collections import defaultdict
 from typing import Any
 
-from .session import Answer
+from ..shared.session import Answer
 
 KINDS, REQUESTS = ("veh", "preempt"), (b"veh ", b"preempt ")
 """Vehicle detectors, by phase; inputs of preempts, by number. The requests that put them on or off begin so."""

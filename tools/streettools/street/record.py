@@ -5,7 +5,6 @@ of both, since they change nothing.
 """
 
 import errno
-import json
 import os
 import pathlib
 import re
@@ -13,8 +12,9 @@ from typing import Any
 
 from ..shared import files
 from ..shared.fault import Fault
+from ..shared.program import Died
+from ..shared.session import Answer, scenario_line
 from ..shared.session_record import SessionRecord, compact
-from .session import Answer, Died
 from .street import Hearer
 
 MOST_INPUTS, MOST_FRAMES, MOST_SCENARIO, MOST_TRACE = 1_000_000, 100_000, 16_777_216, 67_108_864
@@ -127,7 +127,7 @@ class Recorder(Hearer):
         self.part += 1
         self.record, self.room = SessionRecord(scenario, keeps_reads=False), Room(scenario)
         self.requests = Requests(requests_beside(self.trace_path()))
-        self.requests.add(json.dumps(scenario, separators=(",", ":")).encode())
+        self.requests.add(scenario_line(scenario))
         self.requests.write()
 
     def heard(self, request: bytes | None, answer: Answer) -> None:

@@ -1,4 +1,4 @@
-"""A session of the program (docs/LIVE.md), for callers that ask at the same time.
+"""A session of the program (`streettools.shared.session`), for callers that ask at the same time.
 
 Requests go out in the order in which they are asked, and answers come in the same order. So many are without answer at
 once as a pipe holds: neither side waits for the other then.
@@ -7,19 +7,15 @@ once as a pipe holds: neither side waits for the other then.
 import asyncio
 import collections
 import contextlib
-import json
 from collections.abc import Callable
 from typing import Any, NamedTuple
 
-from ..shared.fault import Fault
-from ..shared.status import Status
+from ..shared.program import Died, Late, end_group, live_in_loop, one_line
+from ..shared.session import PIECE, SECONDS, Answer, Answers, Rounds, scenario_line
 
 MOST = 16
 """How many requests may be without answer at once. A request has at most 2,962 octets, and a pipe holds 65,536."""
-LONGEST_LINE = 1 << 24
-"""The longest line of an answer that is read."""
 
-Answer = list[bytes]
 Heard = Callable[[bytes | None, Answer], None]
 """Is told each request with its answer; None stands for the scenario and for the end of input."""
 
@@ -36,22 +32,16 @@ class Over(Exception):
     """The session is over, so that a request has no answer."""
 
 
-class Died(Fault):
-    """The program ended before the session was over: its line, and its exit status."""
-
-    def __init__(self, said: bytes, status: int) -> None:
-        super().__init__(said.decode(errors="replace").strip() or f"the program ended with status {status}", status)
-
-
 class Session:
     """A session that is held by one process of the program."""
 
-    def __init__(self, program: str, scenario: dict[str, Any], heard: Heard) -> None:
+    def __init__(self, program: str, scenario: dict[str, Any], heard: Heard, seconds: float = SECONDS) -> None:
         self.program = program
         self.scenario = scenario
         self.heard = heard
-        self.ticks = self.left = scenario["ticks"]
-        self.taken = 0
+        self.seconds = seconds
+        """How long the program may write nothing while it owes an answer."""
+        self.rounds = Rounds(scenario["ticks"])
         self.queued: collections.deque[Asked] = collections.deque()
         self.waiting: collections.deque[Asked] = collections.deque()
         self.is_over = self.is_closing = False
@@ -60,29 +50,34 @@ class Session:
         self.answers: asyncio.StreamReader
         self.says: asyncio.StreamReader
         self.reader: asyncio.Task[None]
+        self.since = 0.0
+        """When the program last wrote something, or was first asked for what it owes."""
+        self.is_late = False
+
+    @property
+    def taken(self) -> int:
+        """Returns how many ticks were requested."""
+        return self.rounds.taken
 
     async def open(self) -> None:
         """Starts the program, and gives it the scenario; one that it refuses is raised as its death."""
-        pipe = asyncio.subprocess.PIPE
-        self.process = await asyncio.create_subprocess_exec(
-            self.program, "live", stdin=pipe, stdout=pipe, stderr=pipe, limit=LONGEST_LINE, start_new_session=True
-        )
+        self.process = await live_in_loop(self.program)
         assert self.process.stdin and self.process.stdout and self.process.stderr
         self.asks, self.answers, self.says = self.process.stdin, self.process.stdout, self.process.stderr
         self.reader = asyncio.create_task(self.read())
         try:
-            await self.send(None, json.dumps(self.scenario, separators=(",", ":")).encode())
+            await self.send(None, scenario_line(self.scenario))
         except Over:
             raise Died(*await self.end()) from None
 
-    async def end(self) -> tuple[bytes, int]:
+    async def end(self) -> tuple[str, int]:
         """Waits for the end of the program, and returns what it said and its status. A fault of the reader is raised
         once the program has ended."""
         try:
             await self.reader
         finally:
             said, status = await self.says.read(), await self.process.wait()
-        return said, status
+        return one_line(said), status
 
     def send(self, request: bytes | None, line: bytes) -> asyncio.Future[Answer]:
         """Gives a line to be written as soon as there is room, and returns its answer to come. Lines are written in
@@ -97,6 +92,8 @@ class Session:
     def write(self) -> None:
         """Writes lines that are queued, as long as there is room."""
         while self.queued and len(self.waiting) < MOST and not self.is_over:
+            if not self.waiting:
+                self.since = asyncio.get_running_loop().time()
             asked = self.queued.popleft()
             self.waiting.append(asked)
             self.asks.write(asked.line + b"\n")
@@ -107,11 +104,10 @@ class Session:
 
     def send_ticks(self, count: int) -> asyncio.Future[Answer]:
         """Gives a request of ticks, at most those left in the round, and returns its answer to come."""
-        now = min(count, self.left)
-        request = b"tick %d" % now
-        answer = self.send(request, request)
-        self.left, self.taken = self.left - now or self.ticks, self.taken + now
-        return answer
+        if self.is_over or self.is_closing:
+            raise Over
+        request = b"tick %d" % self.rounds.next(count)
+        return self.send(request, request)
 
     def send_all_ticks(self, count: int) -> None:
         """Gives requests of ticks without waiting for their answers."""
@@ -123,7 +119,7 @@ class Session:
     async def take(self, count: int) -> None:
         """Takes ticks, over the ends of rounds where need be; a session that is over takes no more."""
         while count:
-            now = min(count, self.left)
+            now = min(count, self.rounds.left)
             try:
                 await self.send_ticks(now)
             except Over:
@@ -133,33 +129,36 @@ class Session:
     async def read(self) -> None:
         """Gives each answer to the request that waits for it, until the program ends. A fault of one who hears of an
         answer ends the program, and is raised; no request waits any longer then."""
-        lines: Answer = []
+        answers, watch = Answers(), asyncio.create_task(self.watch())
         try:
-            while line := await self.line():
-                if line != b".\n":
-                    lines.append(line[:-1])
-                    continue
-                self.answered(lines)
-                lines = []
+            while octets := await self.answers.read(PIECE):
+                self.since = asyncio.get_running_loop().time()
+                for answer in answers.fed(octets):
+                    self.answered(answer)
         except BaseException:
             self.kill()
             raise
         finally:
+            watch.cancel()
             self.is_over = True
             self.give_up(self.waiting)
             self.give_up(self.queued)
+        if self.is_late:
+            raise Late("an answer of the program", self.seconds)
 
-    async def line(self) -> bytes:
-        """Returns the next line of the program, nothing at its end."""
-        try:
-            return await self.answers.readline()
-        except ValueError:
-            raise Fault(f"the program wrote a line of more than {LONGEST_LINE} octets", Status.FILE) from None
+    async def watch(self) -> None:
+        """Ends a program that owes an answer, or its end, and writes nothing for too long."""
+        now = asyncio.get_running_loop().time
+        while not self.is_late:
+            left = self.since + self.seconds - now() if self.waiting or self.is_closing else self.seconds
+            await asyncio.sleep(max(left, 0.01))
+            self.is_late = bool(self.waiting or self.is_closing) and now() >= self.since + self.seconds
+        self.kill()
 
     def kill(self) -> None:
         """Ends the program, if it hasn't ended."""
-        with contextlib.suppress(ProcessLookupError):
-            self.process.kill()
+        if self.process.returncode is None:
+            end_group(self.process.pid)
 
     def give_up(self, asked: "collections.deque[Asked]") -> None:
         """Says of requests that the session is over."""
@@ -181,7 +180,8 @@ class Session:
 
     async def finish(self) -> None:
         """Ends the input, and waits for the last answer: the session is over then."""
-        self.is_closing = True
+        if not self.is_closing:
+            self.is_closing, self.since = True, asyncio.get_running_loop().time()
         self.give_up(self.queued)
         self.asks.close()
         await self.reader

@@ -10,10 +10,12 @@ from collections.abc import Awaitable, Iterator
 from typing import Any
 
 from ..shared.fault import Fault
+from ..shared.program import Died
+from ..shared.session import Answer
 from ..shared.status import Status
 from .inputs import Inputs
 from .pace import Pace
-from .session import Answer, Died, Over, Session
+from .session import Over, Session
 
 LONGEST = 1472
 """The octets of the longest message that a cabinet may be given."""

@@ -2,12 +2,12 @@
 
 import functools
 import json
-import subprocess
 from pathlib import Path
 from typing import Any
 
 from ..shared.bands import Spans, common, delays_of, read_bands
 from ..shared.cabinet import Cabinet
+from ..shared.program import ran
 from .counts import Spread, StreetCounts
 from .study import Street
 
@@ -18,8 +18,8 @@ ASKED = ("version", "rounds", "ticks", "cabinets")
 def asked(program: Path, question: str, seconds: float) -> tuple[int | None, int | None]:
     """Returns the widths of the greatest bands of a plan, outbound and inbound: 0 where there is none, None where
     none can be asked for."""
-    ran = subprocess.run([program, "band"], input=question.encode(), capture_output=True, timeout=seconds)
-    found = read_bands(ran.stdout.decode(errors="replace")) if ran.returncode == 0 else None
+    answer = ran(program, "band", given=question.encode(), seconds=seconds)
+    found = read_bands(answer.out.decode(errors="replace")) if answer.status == 0 else None
     outbound, inbound = (it.width if it else 0 for it in found) if found else (None, None)
     return outbound, inbound
 

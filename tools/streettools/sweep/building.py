@@ -4,12 +4,12 @@ import copy
 import functools
 import hashlib
 import json
-import subprocess
 from dataclasses import dataclass
 from pathlib import Path
 from typing import Any
 
 from ..shared.fault import Fault
+from ..shared.program import ran
 from . import drawn, queued
 from .drawn import Drawn
 from .queued import Queued
@@ -74,10 +74,10 @@ class Builder:
 
     def asked(self, words: list[str], text: bytes) -> bytes:
         """Returns what the program answers to a base that it has to make first."""
-        ran = subprocess.run([self.program, *words], input=text, capture_output=True)
-        if ran.returncode:
-            raise Fault(f"{' '.join(words)}: {ran.stderr.decode(errors='replace').strip()}")
-        return ran.stdout
+        answer = ran(self.program, *words, given=text)
+        if answer.status:
+            raise Fault(f"{' '.join(words)}: {answer.said}")
+        return answer.out
 
     def document(self, variant: Variant) -> dict[str, Any]:
         """Returns the scenario with what the variant puts, and the study's tables beside it."""

@@ -11,6 +11,7 @@ from typing import Any, BinaryIO
 
 from ..cosim.movements import Count
 from ..shared.fault import Fault
+from ..shared.program import Late, Ran, ran
 from ..shared.trace_records import NotATrace
 from ..shared.status import Status
 from ..shared.trace_reader import TraceReader
@@ -122,12 +123,11 @@ class Runner:
 
     def trace(self, given: BinaryIO, trace: BinaryIO) -> str | None:
         """Writes the trace of a scenario; returns the line with which the program refuses it, None where it doesn't."""
-        ran = self.ran("run", given, trace)
-        words = ran.stderr.decode(errors="replace").strip()
-        if ran.returncode == 2:
-            return words
-        if ran.returncode:
-            raise Failed(words or f"the program ended with status {ran.returncode}")
+        answer = self.ran("run", given, trace)
+        if answer.status == Status.REFUSED:
+            return answer.said
+        if answer.status:
+            raise Failed(answer.said or f"the program ended with status {answer.status}")
         self.checked(trace)
         return None
 
@@ -137,7 +137,7 @@ class Runner:
             terms = queued.Terms(self.start, time.monotonic() + self.seconds, self.looks)
             ran = queued.run(self.program, built.scenario, demand, terms)
         except Fault as fault:
-            if fault.status is Status.REFUSED:
+            if fault.status == Status.REFUSED:
                 raise
             raise Failed(str(fault)) from None
         except TimeoutError:
@@ -151,10 +151,10 @@ class Runner:
 
     def checked(self, trace: BinaryIO) -> None:
         """Has a trace checked, where that is asked for."""
-        if self.check and (told := self.ran("check", trace, subprocess.DEVNULL)).returncode:
-            raise Failed(f"check: {told.stderr.decode(errors='replace').strip()}")
+        if self.check and (answer := self.ran("check", trace, subprocess.DEVNULL)).status:
+            raise Failed(f"check: {answer.said}")
 
-    def ran(self, word: str, given: BinaryIO, to: BinaryIO | int) -> subprocess.CompletedProcess[bytes]:
+    def ran(self, word: str, given: BinaryIO, to: BinaryIO | int) -> Ran:
         """Runs the program. Where it can't be started or is killed, as on a machine without memory, it is tried
         again."""
         fault = ""
@@ -165,17 +165,15 @@ class Runner:
                 to.seek(0)
                 to.truncate()
             try:
-                ran = subprocess.run(
-                    [self.program, word], stdin=given, stdout=to, stderr=subprocess.PIPE, timeout=self.seconds
-                )
-            except subprocess.TimeoutExpired:
-                raise Failed(f"{word} was not done in {self.seconds:g} s") from None
+                answer = ran(self.program, word, given=given, out=to, seconds=self.seconds)
+            except Late as late:
+                raise Failed(str(late)) from None
             except OSError as why:
                 fault = f"the program can't be started: {why.strerror}"
                 continue
-            if ran.returncode >= 0:
-                return ran
-            fault = f"the program was ended by signal {-ran.returncode}"
+            if answer.status >= 0:
+                return answer
+            fault = f"the program was ended by signal {-answer.status}"
         raise Failed(fault)
 
     def measured(self, built: Built, trace: BinaryIO, traffic: Traffic | None = None) -> list[Any]:

@@ -91,14 +91,14 @@ def test_a_vehicle_that_waits_at_the_line_is_seen_until_it_is_gone():
     cabinets = FixedTime(90, 30)
     ran(only, cabinets, 180, seed)
     told = [it for it in cabinets.asked if it[1]]
-    assert told[0] == (10 * (int(entry) + 1), [b"veh 1 2 on\n"])
-    assert told[1] == (10 * 95, [b"veh 1 2 off\n"])
+    assert told[0] == (10 * (int(entry) + 1), [b"veh 1 2 on"])
+    assert told[1] == (10 * 95, [b"veh 1 2 off"])
     assert street.passages[0][0][1] == pytest.approx(90 + 2.0 + 2.0)
 
 
 def test_a_vehicle_that_passes_between_two_steps_is_told_as_on_and_off():
     told = asked([flow(60, detectors=Detectors(False, 3.0, 0.2))], 600, green=80)
-    assert any(it[1] == [b"veh 1 2 on\n", b"veh 1 2 off\n"] for it in told)
+    assert any(it[1] == [b"veh 1 2 on", b"veh 1 2 off"] for it in told)
     state = b"off"
     for _, requests in told:
         for it in requests:
@@ -125,5 +125,5 @@ def test_persons_press_the_button_of_their_crossing_once_a_step():
     demand = demand_of(volumes, 1, 0.0, 100.0)
     cabinets = FixedTime(90, 30)
     Street(volumes, demand, Steps(100, 10)).run(cabinets, Signals(1), lambda step: None)
-    pressed = {tick // 10 for tick, requests in cabinets.asked if requests == [b"ped 1 4\n"]}
+    pressed = {tick // 10 for tick, requests in cabinets.asked if requests == [b"ped 1 4"]}
     assert pressed == {int(it.at) + 1 for it in demand.persons if it.at < 99}

@@ -13,8 +13,8 @@ class PhaseDetectors:
     __slots__ = ("on", "off", "lines", "until", "seen", "is_on", "is_awake")
 
     def __init__(self, cabinet: int, phase: int) -> None:
-        self.on = b"veh %d %d on\n" % (cabinet, phase)
-        self.off = b"veh %d %d off\n" % (cabinet, phase)
+        self.on = b"veh %d %d on" % (cabinet, phase)
+        self.off = b"veh %d %d off" % (cabinet, phase)
         self.lines: list[tuple[StopLine, int]] = []
         """Queues that are seen, each with how many vehicles have to stand there."""
         self.until = self.seen = -1.0

@@ -130,7 +130,7 @@ def presses(volumes: Volumes, demand: Demand, steps: Steps) -> list[list[bytes]]
         step = steps.place(it.at) + 1
         if step < steps.count:
             crossing = volumes.crossings[it.crossing]
-            press = b"ped %d %d\n" % (crossing.cabinet, crossing.phase)
+            press = b"ped %d %d" % (crossing.cabinet, crossing.phase)
             if press not in found[step]:
                 found[step].append(press)
     return found

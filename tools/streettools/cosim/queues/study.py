@@ -82,12 +82,9 @@ def run(program: str, volumes: Volumes, scenario: dict[str, Any], asked: Asked, 
     given, steps = session_of(scenario, asked)
     demand = demand_of(volumes, asked.seed, checks.starts_at(scenario), asked.seconds)
     street, signals = Street(volumes, demand, steps), Signals(len(scenario["cabinets"]))
-    cabinets = Cabinets(program, given, asked.keeps_trace)
-    try:
+    with Cabinets(program, given, asked.keeps_trace) as cabinets:
         street.run(cabinets, signals, advance)
         cabinets.close()
-    finally:
-        cabinets.kill()
     signals.close(steps.seconds)
     trace = cabinets.trace() if asked.keeps_trace else None
     return Ran(volumes, asked, street, signals, demand, len(scenario["cabinets"]), trace)

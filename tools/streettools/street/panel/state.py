@@ -6,7 +6,8 @@ import json
 from dataclasses import dataclass, field
 from typing import Any
 
-from ..session import Answer, Died
+from ...shared.program import Died
+from ...shared.session import Answer
 from ..street import Hearer
 from .layout import street_facts
 from .names import answered_text, asked_text
