@@ -7,13 +7,12 @@ from dataclasses import dataclass
 from typing import Any
 
 from ..cabinet.messages import SET, message, reply_of
+from ..shared.oids import CANCEL, REQUEST
 from .mapping import Map, MappedBus
 from .network import Network, edge_of
 from .records import Request
 from .watched import Watched
 
-OWN = (1, 3, 6, 1, 4, 1, 32473, 1, 4)
-GIVEN, TAKEN = (*OWN, 1, 0), (*OWN, 2, 0)
 NUMBERS = range(1, 11)
 MOST_TICKS = 65_535
 SLOWEST = 5.0
@@ -114,12 +113,12 @@ class Priority:
         departure = min(arrival + round(10 * bus.slack), MOST_TICKS)
         head = bytes([asking.number, bus.number_class, bus.level, asking.phase])
         value = head + arrival.to_bytes(2, "big") + departure.to_bytes(2, "big")
-        return self.frame(asking.cabinet, GIVEN, value)
+        return self.frame(asking.cabinet, REQUEST, value)
 
     def taken(self, asking: Asking, second: float) -> bytes:
         """Returns the request by which a bus takes its request back, and keeps it as done."""
         self.kept(asking, second)
-        return self.frame(asking.cabinet, TAKEN, asking.number)
+        return self.frame(asking.cabinet, CANCEL, asking.number)
 
     def kept(self, asking: Asking, cancelled: float | None) -> None:
         """Keeps a request that is over."""

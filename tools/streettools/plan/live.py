@@ -11,18 +11,19 @@ import time
 from collections.abc import Callable
 
 from ..cabinet.messages import GET_NEXT, INTEGER, OCTETS, RESPONSE, Reply, kind_of, message, reply_of
+from ..shared.oids import ASC, CLOCK, CONTROL, CORRECTION, DETECTOR_ENTRY, ENTRIES, OWN, SEQUENCE_DATA
 from .given import Fault, Unreadable
-from .walk import ASC, OWN, Name
+from .walk import Name
 
 COLUMNS = [
-    *((*ASC, 1, 2, 1, column) for column in range(2, 24)),
-    *((*ASC, 4, 7, 1, column) for column in range(2, 6)),
-    *((*ASC, 4, 9, 1, column, split) for split in range(1, 33) for column in range(3, 6)),
-    *((*ASC, 6, 2, 1, column) for column in range(4, 16)),
-    (*ASC, 7, 3, 1, 3),
-    *((*ASC, 2, 2, 1, column) for column in (4, 6, 7, 9, 10, 11)),
-    (*ASC, 3, 3), (*ASC, 4, 2), (*ASC, 4, 4), (*ASC, 4, 14), *((*OWN, 3, number) for number in range(1, 8)),
-    (*OWN, 2, 1),
+    *((*ENTRIES["phase"], column) for column in range(2, 24)),
+    *((*ENTRIES["pattern"], column) for column in range(2, 6)),
+    *((*ENTRIES["split"], column, split) for split in range(1, 33) for column in range(3, 6)),
+    *((*ENTRIES["preempt"], column) for column in range(4, 16)),
+    SEQUENCE_DATA,
+    *((*DETECTOR_ENTRY, column) for column in (4, 6, 7, 9, 10, 11)),
+    (*ASC, 3, 3), CORRECTION[:-1], (*ASC, 4, 4), CONTROL[:-1], *((*OWN, 3, number) for number in range(1, 8)),
+    CLOCK[:-1],
 ]  # fmt: skip
 """Under which names there is something of a plan. The long columns of splits are asked split by split, side by side."""
 

@@ -5,19 +5,18 @@ import shlex
 from collections.abc import Iterator
 from typing import Any
 
+from ..shared.ber import Arcs
 from ..shared.fault import Fault
-from ..shared.tables import Tables
+from ..shared.oids import BEGIN, FINISH, ID, PART, TOTAL, dotted, object_of
+from ..shared.tables import Cell, Tables
 from . import rules
-from ..shared.cells import Cell, differing, tables_of, value, written
+from ..shared.cells import differing, tables_of, value, written
 from .pattern_sentences import sentences
 from .reading import Street
-from .walk import ASC, OWN, TABLES, UNIT, Name
 
 MOST_CELLS = 768
-PART = 24
+CELLS_OF_A_PART = 24
 FLASH_RULE = 21
-OBJECTS = {name: front for front, name in TABLES.items()}
-BEGIN, ID, PARTS, TOTAL, FINISH = ((*OWN, 1, number, 0) for number in range(2, 7))
 
 
 class NoWay(Fault):
@@ -100,20 +99,7 @@ def between(old: Street, new: Street, round_: int, flash: bool) -> list[dict]:
     return found
 
 
-def object_of(cell: Cell) -> Name:
-    """Returns the name of the object that a cell is."""
-    match cell:
-        case ("unit", 1):
-            return (*ASC, 4, 2, 0)
-        case ("unit", column):
-            return (*OWN, *next(rest for rest, it in UNIT.items() if it == column))
-        case ("sequence", number, ring):
-            return (*ASC, 7, 3, 1, 3, number, ring)
-    table, *row, column = cell
-    return (*ASC, *OBJECTS[table], column, *row)
-
-
-Binding = tuple[Name, int | str]
+Binding = tuple[Arcs, int | str]
 """The name of an object and its new value: a number, or octets as hexadecimal digits."""
 
 
@@ -121,7 +107,7 @@ def command(host: str, community: str, bindings: list[Binding]) -> str:
     """Returns the command of snmpset, as a shell reads it, that sets some objects."""
     words = ["snmpset", "-v1", "-c", community, host]
     for name, new in bindings:
-        words += [".".join(map(str, name)), "x" if isinstance(new, str) else "i", str(new)]
+        words += [dotted(name), "x" if isinstance(new, str) else "i", str(new)]
     return shlex.join(words)
 
 
@@ -129,10 +115,10 @@ def sets(load: dict[str, Any], number: int, host: str, community: str) -> Iterat
     """Yields the commands of snmpset that carry a download with this id: begin, parts, the total upon which the tables
     are tested, finish."""
     cells = load["cells"]
-    parts = [cells[at : at + PART] for at in range(0, len(cells), PART)]
+    parts = [cells[at : at + CELLS_OF_A_PART] for at in range(0, len(cells), CELLS_OF_A_PART)]
     messages: list[list[Binding]] = [[(BEGIN, number)]]
     for count, part in enumerate(parts, 1):
-        messages.append([(ID, number), (PARTS, count), *((object_of(tuple(cell)), new) for *cell, new in part)])
+        messages.append([(ID, number), (PART, count), *((object_of(tuple(cell)), new) for *cell, new in part)])
     messages += [[(ID, number), (TOTAL, len(parts))], [(ID, number), (FINISH, 1)]]
     for bindings in messages:
         yield command(host, community, bindings)

@@ -5,6 +5,8 @@ from collections.abc import Iterable, Iterator
 from dataclasses import dataclass, field
 from typing import Any
 
+from ..shared import oids
+from ..shared.ber import Arcs
 from ..shared.tables import Tables
 from . import names
 from ..shared.cells import Lists, cells_between, kinds, put, unset
@@ -12,18 +14,17 @@ from ..shared.clock import DAY_TICKS
 from .given import Fault, Unreadable
 from .reading import USUAL_RUN, Street
 
-Name = tuple[int, ...]
-ASC, OWN = (1, 3, 6, 1, 4, 1, 1206, 4, 2, 1), (1, 3, 6, 1, 4, 1, 32473, 1)
+Name = Arcs
 FRONTS = {"iso": "1", "SNMPv2-SMI::enterprises": "1.3.6.1.4.1", "enterprises": "1.3.6.1.4.1"}
 ARC = r"[0-9]{1,10}"
 LINE = re.compile(rf"(\.?(?:iso|SNMPv2-SMI::enterprises|enterprises|{ARC})(?:\.{ARC}){{1,127}}) = ?(.*)", re.DOTALL)
 NUMBER = re.compile(r"\((-?[0-9]{1,19})\)|(?<![0-9])(-?[0-9]{1,19})(?![0-9])")
 """A number in a value: that in parentheses, as in `shortway(3)`, or the first one."""
-TABLES = {(1, 2, 1): "phase", (4, 7, 1): "pattern", (4, 9, 1): "split", (6, 2, 1): "preempt"}
-COORD_MODE, COMMAND, FORCE_MODE, BACKUP = (4, 2, 0), (4, 14, 0), (4, 4, 0), (3, 3, 0)
-SEQUENCE, DETECTOR = (7, 3, 1, 3), (2, 2, 1)
-UNIT = {(3, 1, 0): 2, (3, 2, 0): 3, (3, 3, 0): 4, (3, 4, 0): 5, (3, 5, 0): 6, (3, 6, 0): 7, (3, 7, 0): 8}
-CLOCK = (2, 1, 0)
+BELOW_ASC = len(oids.ASC)
+TABLES = {arcs[BELOW_ASC:]: name for name, arcs in oids.ENTRIES.items()}
+UNIT = {arcs: column for column, arcs in oids.UNIT.items()}
+FORCE_MODE, BACKUP = oids.ASC + (4, 4, 0), oids.ASC + (3, 3, 0)
+SEQUENCE, DETECTOR = oids.SEQUENCE_DATA[BELOW_ASC:], oids.DETECTOR_ENTRY[BELOW_ASC:]
 FORCE_WORDS = {2: 2, 3: 1}
 """coordForceMode of NTCIP 1202, 2 floating and 3 fixed, as this project's force mode."""
 
@@ -105,13 +106,11 @@ def read(text: str) -> dict[Name, int | bytes]:
 
 def cell_of(name: Name) -> tuple | None:
     """Returns the cell that an object is, None where it is none."""
-    if name[: len(OWN)] == OWN and name[len(OWN) :] in UNIT:
-        return "unit", UNIT[name[len(OWN) :]]
-    rest = name[len(ASC) :]
-    if name[: len(ASC)] != ASC:
+    if name in UNIT:
+        return "unit", UNIT[name]
+    rest = name[BELOW_ASC:]
+    if name[:BELOW_ASC] != oids.ASC:
         return None
-    if rest == COORD_MODE:
-        return "unit", 1
     if rest[:4] == SEQUENCE and len(rest) == 6:
         cell: tuple = ("sequence", *rest[4:])
     elif rest[:3] in TABLES and len(rest) > 4:
@@ -142,28 +141,28 @@ class Walked:
 
     def leave(self, name: Name, why: str = "") -> None:
         """Keeps an object that has no place."""
-        rest = name[len(ASC) :] if name[: len(ASC)] == ASC else None
+        rest = name[BELOW_ASC:] if name[:BELOW_ASC] == oids.ASC else None
         subject = next(
             (word for front, word in sorted(SUBJECTS.items(), reverse=True) if rest and rest[: len(front)] == front), ""
         )
         key = f"{subject or 'others'}{f' ({why})' if why else ''}"
-        self.without.setdefault(key, []).append(".".join(map(str, name)))
+        self.without.setdefault(key, []).append(oids.dotted(name))
 
     def take(self, name: Name, value: int | bytes) -> None:
         """Takes up an object."""
-        cell, rest = cell_of(name), name[len(ASC) :]
+        cell, rest = cell_of(name), name[BELOW_ASC:]
         if cell is not None:
             self.take_cell(name, cell, value)
-        elif name == (*ASC, *COMMAND) and isinstance(value, int) and 0 <= value <= 255:
+        elif name == oids.CONTROL and isinstance(value, int) and 0 <= value <= 255:
             self.command = value
-        elif name == (*OWN, *CLOCK) and isinstance(value, int) and 0 <= value < DAY_TICKS:
+        elif name == oids.CLOCK and isinstance(value, int) and 0 <= value < DAY_TICKS:
             self.clock = value
-        elif name == (*ASC, *BACKUP):
+        elif name == BACKUP:
             self.take_cell(name, ("unit", 5), value)
-        elif name == (*ASC, *FORCE_MODE) and value in FORCE_WORDS:
+        elif name == FORCE_MODE and value in FORCE_WORDS:
             put(self.tables, ("unit", 7), FORCE_WORDS[value])
         elif (
-            name[: len(ASC)] == ASC
+            name[:BELOW_ASC] == oids.ASC
             and rest[:3] == DETECTOR
             and len(rest) == 5
             and rest[3] in DETECTOR_COLUMNS
@@ -175,7 +174,7 @@ class Walked:
 
     def is_quiet(self, name: Name, rest: Name) -> bool:
         """Tells whether an object says nothing of a plan: an index, or what is shown just now."""
-        if name[: len(OWN)] == OWN:
+        if name[: len(oids.OWN)] == oids.OWN:
             return True
         is_index = (
             rest[:3] in (*TABLES, DETECTOR)
@@ -183,7 +182,7 @@ class Walked:
             and not (rest[:3] == (6, 2, 1) and rest[3] == 2)
         )
         is_index = is_index and not (rest[:3] == DETECTOR and rest[3] == 2)
-        return name[: len(ASC)] == ASC and (
+        return name[:BELOW_ASC] == oids.ASC and (
             is_index or rest[:4] in ((7, 3, 1, 1), (7, 3, 1, 2)) or any(rest[:2] == it for it in STATUS)
         )
 

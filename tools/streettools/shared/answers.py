@@ -8,17 +8,18 @@ refused repeats its bindings, too, and they have the value Null.
 
 from typing import NamedTuple
 
-from .ber import INTEGER, NULL, Field, name_content, number_of
+from . import oids
+from .ber import INTEGER, NULL, Arcs, Field, name_content, number_of
 from .snmp import Binding, bindings_of, head_of
 
-OWN = "2b0601040181fd5901"
-CLOCK, REQUEST, CANCEL = OWN + "020100", OWN + "040100", OWN + "040200"
-PATTERN = "2b06010401893604020104" + "0e00"
+DIGITS = {arcs: name_content(arcs).hex() for arcs in (oids.CLOCK, oids.REQUEST, oids.CANCEL, oids.ID)}
+"""Objects as their hexadecimal digits appear in a message."""
+ORDERS = [DIGITS[it] for it in (oids.CLOCK, oids.REQUEST, oids.CANCEL)]
 OBJECTS = {
-    CLOCK: "cabinetClock.0", PATTERN: "systemPatternControl.0",
-    REQUEST: "priorityRequest.0", CANCEL: "priorityCancel.0",
-    OWN + "010200": "downloadBegin.0", OWN + "010300": "downloadId.0", OWN + "010400": "downloadPart.0",
-    OWN + "010500": "downloadTotal.0", OWN + "010600": "downloadFinish.0",
+    oids.CLOCK: "cabinetClock.0", oids.CONTROL: "systemPatternControl.0",
+    oids.REQUEST: "priorityRequest.0", oids.CANCEL: "priorityCancel.0",
+    oids.BEGIN: "downloadBegin.0", oids.ID: "downloadId.0", oids.PART: "downloadPart.0",
+    oids.TOTAL: "downloadTotal.0", oids.FINISH: "downloadFinish.0",
 }  # fmt: skip
 """The objects that a Set may have beside the columns of the tables, by their names in `mibs/ARTERIAL-PROFILE-MIB`."""
 
@@ -61,7 +62,7 @@ Order = ClockNamed | Requested | Cancelled
 def orders(digits: str) -> list[Order]:
     """Returns the orders that a reply's hexadecimal digits name, in their order; none if its status isn't 0, or if it
     is no reply."""
-    if not any(name in digits for name in (CLOCK, REQUEST, CANCEL)):
+    if not any(name in digits for name in ORDERS):
         return []
     try:
         head = head_of(bytes.fromhex(digits))
@@ -72,21 +73,20 @@ def orders(digits: str) -> list[Order]:
     return [it for it in found if it is not None]
 
 
-def order(name: tuple[int, ...], value: Field) -> Order | None:
+def order(name: Arcs, value: Field) -> Order | None:
     """Returns the order in a binding of a name and a value, or None."""
-    digits = name_content(name).hex()
-    if digits == CLOCK:
+    if name == oids.CLOCK:
         return ClockNamed(number_of(value.content))
-    if digits == REQUEST and len(value.content) == 8:
+    if name == oids.REQUEST and len(value.content) == 8:
         return Requested(value.content[0], int.from_bytes(value.content[6:8], "big"))
-    if digits == CANCEL:
+    if name == oids.CANCEL:
         return Cancelled(number_of(value.content))
     return None
 
 
-def named_object(name: tuple[int, ...]) -> str:
+def named_object(name: Arcs) -> str:
     """Returns the name of an object: that of the MIB if it is listed here, else its numbers."""
-    return OBJECTS.get(name_content(name).hex()) or ".".join(map(str, name))
+    return OBJECTS.get(name) or oids.dotted(name)
 
 
 def valued(value: Field) -> int | str:

@@ -4,7 +4,7 @@ ended."""
 from functools import lru_cache
 from typing import Any, NamedTuple
 
-from . import answers
+from . import answers, oids
 from .trace_records import Frame, Input, Load, NotATrace
 from .plans import Plan, correction, cycles_needed, plan
 from .tables import ALL, Tables
@@ -71,8 +71,8 @@ def changed_elsewhere(scenario: dict[str, Any], number: int) -> bool:
         it["cabinet"] == number and it["kind"] == "flip" and it["stream"] == "load" and it["way"] == "down"
         for it in scenario.get("faults", ())
     )
-    part = answers.OWN + "0103"
-    return flips or any(it["cabinet"] == number and part in it["hex"].lower() for it in scenario.get("frames", ()))
+    load = answers.DIGITS[oids.ID].removesuffix("00")
+    return flips or any(it["cabinet"] == number and load in it["hex"].lower() for it in scenario.get("frames", ()))
 
 
 class Cabinet:

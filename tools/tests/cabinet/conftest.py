@@ -9,6 +9,7 @@ import subprocess
 import sys
 
 import pytest
+from streettools.shared.oids import CLOCK, CONTROL, VERSION  # noqa: F401
 
 TOP = pathlib.Path(__file__).resolve().parents[3]
 sys.dont_write_bytecode = True
@@ -29,9 +30,6 @@ def program_here():
 
 PROGRAM = program_here()
 
-ASC = (1, 3, 6, 1, 4, 1, 1206, 4, 2, 1)
-OWN = (1, 3, 6, 1, 4, 1, 32473, 1)
-CONTROL, CLOCK, VERSION = (*ASC, 4, 14, 0), (*OWN, 2, 1, 0), (*OWN, 1, 10, 0)
 
 
 class Client:

@@ -9,13 +9,15 @@ import time
 
 import pytest
 from streettools.cabinet.messages import GET, GET_NEXT, SET, kind_of, message, reply_of
+from streettools.shared import oids
 from streettools.shared.program import trace_of
 
-from .conftest import ASC, CLOCK, CONTROL, MODEL, OWN, PROGRAM, SECONDS, TOP, VERSION
+from .conftest import CLOCK, CONTROL, MODEL, PROGRAM, SECONDS, TOP, VERSION
 
-COUNTER, TARGET, MODE = (*OWN, 2, 2, 0), (*OWN, 2, 3, 0), (*OWN, 2, 4, 0)
-OUTCOME, REQUEST = (*OWN, 1, 7, 0), (*OWN, 4, 3, 1, 2)
-GETS = [COUNTER, TARGET, MODE, OUTCOME, REQUEST, CLOCK, VERSION, (*ASC, 1, 4, 1, 4, 1), (*ASC, 4, 10, 0)]
+GETS = [
+    oids.COUNTER_OF_CYCLE, oids.TARGET, oids.MODE, oids.OUTCOME, (*oids.REQUEST_STATES, 2), CLOCK, VERSION,
+    (*oids.STATUS_GROUP, 4, 1), oids.STATUS,
+]  # fmt: skip
 
 
 def set_of(number, *bindings):
@@ -31,15 +33,15 @@ def value_in(reply):
 def drawn(dice, number, community=b"public"):
     """Returns a message of some kind: a Get, a GetNext, a Set that is good or bad, a step of a download, or a damaged
     one."""
-    download = (*OWN, 1, 3, 0), 1 + number // 12
+    download = oids.ID, 1 + number // 12
     orders = [
         [(CONTROL, dice.choice([0, 1, 254, 255, 48]))],
         [(CLOCK, dice.randrange(864_500))],
-        [((*OWN, 4, 1, 0), bytes([2, 1, 1, dice.choice([2, 6]), 0, 50, 1, dice.randrange(256)]))],
-        [((*OWN, 1, 2, 0), download[1])],
-        [download, ((*OWN, 1, 4, 0), 1), ((*ASC, 1, 2, 1, 4, 2), dice.randrange(5, 20))],
-        [download, ((*OWN, 1, 5, 0), 1)],
-        [download, ((*OWN, 1, 6, 0), 1)],
+        [(oids.REQUEST, bytes([2, 1, 1, dice.choice([2, 6]), 0, 50, 1, dice.randrange(256)]))],
+        [(oids.BEGIN, download[1])],
+        [download, (oids.PART, 1), ((*oids.ENTRIES["phase"], 4, 2), dice.randrange(5, 20))],
+        [download, (oids.TOTAL, 1)],
+        [download, (oids.FINISH, 1)],
     ]
     made = [message(SET, number, order, community) for order in orders]
     made.append(message(GET, number, [(name, None) for name in GETS], community))

@@ -12,7 +12,8 @@ import threading
 import pytest
 
 from streettools.cabinet.messages import GET, GET_NEXT, field, integer, kind_of, message, name_of, reply_of, value_of
-from streettools.plan import live, loads, reading, toml_text, walk
+from streettools.plan import live, reading, toml_text, walk
+from streettools.shared import oids
 from streettools.shared.cells import differing, kinds, tables_of, value
 from streettools.plan.given import Unreadable
 from streettools.shared.tables import Tables
@@ -101,7 +102,7 @@ class Fake:
 
     def __init__(self, tables: Tables, most: int):
         self.most = most
-        objects = {loads.object_of(cell): value(tables, cell) for cell in kinds()} | {(*walk.ASC, 8, 1, 0): 3}
+        objects = {oids.object_of(cell): value(tables, cell) for cell in kinds()} | {(*oids.ASC, 8, 1, 0): 3}
         self.objects = sorted((name, bytes(it) if isinstance(it, tuple) else it) for name, it in objects.items())
         self.socket = socket.socket(socket.AF_INET, socket.SOCK_DGRAM)
         self.socket.bind(("127.0.0.1", 0))
@@ -214,7 +215,7 @@ def test_the_commands_of_a_download_load_a_live_cabinet(program, tmp_path):
         agent = live.Agent("127.0.0.1", port, "public")
         agent.socket.settimeout(SECONDS)
         agent.socket.sendto(
-            message(GET, 1, [(loads.object_of(tuple(it[:-1])), None) for it in cells]), ("127.0.0.1", port)
+            message(GET, 1, [(oids.object_of(tuple(it[:-1])), None) for it in cells]), ("127.0.0.1", port)
         )
         reply = reply_of(agent.socket.recv(65_536))
     found = [content.hex() if tag == 4 else int.from_bytes(content, "big") for _, tag, content in reply.bindings]

@@ -120,7 +120,7 @@ def test_an_answer_without_an_end_is_bounded(script, monkeypatch):
 
 
 def test_a_caller_that_is_interrupted_while_an_answer_is_under_way_leaves_no_process(script, tmp_path):
-    """The record is whole: the first round is answered. The second hangs when Ctrl-C comes: the record has the first."""
+    """The first round is answered, the second hangs when Ctrl-C comes: the record is the first."""
     path = script(OPENING + "read line; printf 'J 1 4*10\\nR 2\\n.\\n'\nread line; sleep 60 & wait\n")
     session = recorded.Session(path, SCENARIO)
 

@@ -13,6 +13,7 @@ import sys
 import threading
 
 import pytest
+from streettools.shared.oids import CLOCK, CONTROL, COUNTER_OF_CYCLE as COUNTER, VERSION  # noqa: F401
 
 TOP = pathlib.Path(__file__).resolve().parents[3]
 sys.dont_write_bytecode = True
@@ -20,9 +21,6 @@ sys.path += [str(TOP), str(TOP / "tools")]
 
 SECONDS = 60
 """How long anything may take."""
-ASC, OWN = (1, 3, 6, 1, 4, 1, 1206, 4, 2, 1), (1, 3, 6, 1, 4, 1, 32473, 1)
-CONTROL, STATUS = (*ASC, 4, 14, 0), (*ASC, 4, 10, 0)
-CLOCK, COUNTER, VERSION = (*OWN, 2, 1, 0), (*OWN, 2, 2, 0), (*OWN, 1, 10, 0)
 
 
 def has_live(program):

@@ -9,7 +9,7 @@ import subprocess
 from types import SimpleNamespace
 
 import pytest
-from streettools.shared import ber, snmp
+from streettools.shared import ber, oids, snmp
 from streettools.street.inputs import Inputs
 from streettools.street.ntcip.front import Cabinet
 from streettools.street.ntcip.objects import OBJECTS
@@ -19,7 +19,7 @@ from .conftest import SECONDS
 from .test_agents import written
 from .test_panel import feed_of
 
-ASC, GLOBAL, OWN = "1.3.6.1.4.1.1206.4.2.1", "1.3.6.1.4.1.1206.4.2.6", "1.3.6.1.4.1.32473.1"
+ASC, GLOBAL, OWN = map(oids.dotted, (oids.ASC, oids.GLOBAL, oids.OWN))
 CREATE, STATUS, ERROR = f"{GLOBAL}.2.1.0", f"{GLOBAL}.2.6.0", f"{GLOBAL}.2.7.0"
 SPLITS = f"{ASC}.4.9.1.3.1"
 TRAIN = {"version": 1, "rounds": 9, "ticks": 10, "cabinets": [{"cells": [["preempt", 1, 13, "0206"]]}, {}]}

@@ -7,10 +7,11 @@ import time
 
 import pytest
 from streettools.cabinet.messages import GET, SET, message, reply_of
+from streettools.shared.oids import BEGIN, ENTRIES, FINISH, ID, PART, SEQUENCE_DATA, TOTAL
 from streettools.street.pace import Pace
 from streettools.street.street import Street
 
-from .conftest import ASC, CONTROL, OWN, SECONDS, VERSION
+from .conftest import CONTROL, SECONDS, VERSION
 from .test_agents import get, written
 
 aiohttp = pytest.importorskip("aiohttp")
@@ -24,8 +25,6 @@ TRAIN = {
     "cabinets": [{"cells": [["preempt", 1, 13, "0206"], ["preempt", 1, 10, 5]]}],
 }
 """Preempt 1 dwells on phases 2 and 6 for 5 s at the least."""
-BEGIN, ID, PART, TOTAL, FINISH = ((*OWN, 1, arc, 0) for arc in range(2, 7))
-"""The objects of a download."""
 
 
 @pytest.fixture
@@ -129,7 +128,7 @@ def test_a_held_preempt_is_shown_in_the_rings(panel, browser):
     awaited(browser, "facts", "free")
 
 
-SPLITS, SEQUENCE = (*ASC, 4, 9, 1, 3, 1), (*ASC, 7, 3, 1, 3)
+SPLITS, SEQUENCE = (*ENTRIES["split"], 3, 1), SEQUENCE_DATA
 
 
 def download(running, number, *cells):

@@ -5,6 +5,7 @@ import itertools
 import os
 
 import pytest
+from streettools.shared import oids
 
 from .conftest import SECONDS, free_ports
 from .test_agents import written
@@ -12,7 +13,7 @@ from .test_agents import written
 hlapi = pytest.importorskip("pysnmp.hlapi", reason="python3-pysnmp4 is missing")
 EndOfMibView = pytest.importorskip("pysnmp.proto.rfc1905").EndOfMibView
 
-ASC, OWN = "1.3.6.1.4.1.1206.4.2.1", "1.3.6.1.4.1.32473.1"
+ASC, OWN = oids.dotted(oids.ASC), oids.dotted(oids.OWN)
 CONTROL, CLOCK = f"{ASC}.4.14.0", f"{OWN}.2.1.0"
 BEGIN, ID, PART, TOTAL, FINISH, OUTCOME = (f"{OWN}.1.{arc}.0" for arc in range(2, 8))
 VERSION, SPLIT, MINIMUM = f"{OWN}.1.10.0", f"{ASC}.4.9.1.3.1", f"{ASC}.1.2.1.4"

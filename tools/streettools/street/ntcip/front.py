@@ -4,21 +4,10 @@ import asyncio
 import bisect
 
 from ...shared.ber import COUNTER, END_OF_VIEW, GAUGE, INTEGER, NO_SUCH_INSTANCE, Arcs, Field, number_of, unsigned_of
+from ...shared.oids import CLOCK, GLOBAL_TIME, PREEMPT_STATE, TRANSACTION, VEH_CALL
 from ...shared.snmp import BULK, GET, GET_NEXT, V1, Binding, Message
 from ..street import Street
-from .objects import (
-    CLOCK,
-    DAY,
-    GLOBAL_TIME,
-    OBJECTS,
-    ORDER,
-    PREEMPT_STATE,
-    TRANSACTION,
-    VEH_CALL,
-    WRITABLE,
-    Front,
-    is_cell,
-)
+from .objects import DAY, OBJECTS, ORDER, WRITABLE, Front, is_cell
 from .pdus import BAD_VALUE, GEN_ERR, MOST_OCTETS, NO_SUCH_NAME, Fault, asked_of, reply, whole
 from .side import Side, Silent
 from .transaction import GATHERING, Transaction

@@ -10,20 +10,16 @@ from collections.abc import Awaitable, Callable
 from dataclasses import dataclass, field
 
 from ...shared.ber import COUNTER, NAME, TIME_TICKS, Arcs, Field, name_content
+from ...shared.oids import (
+    ASC, CLOCK, CONTROL, COUNTER_OF_CYCLE, DETECTOR_GROUP, ENTRIES, GLOBAL, GLOBAL_TIME, MODE, OWN, PED_CALL,
+    PHASE_CONTROL, PREEMPT_CONTROL, PREEMPT_STATE, SEQUENCE_ENTRY, STATUS, SYSTEM, TRANSACTION, UNIT, VEH_CALL,
+    VERIFY_ERROR, VERIFY_STATUS,
+)  # fmt: skip
 from ...shared.version import VERSION
 from ..street import Street
 from .pdus import text, whole
 from .side import Side
 
-ASC, GLOBAL, OWN = (1, 3, 6, 1, 4, 1, 1206, 4, 2, 1), (1, 3, 6, 1, 4, 1, 1206, 4, 2, 6), (1, 3, 6, 1, 4, 1, 32473, 1)
-SYSTEM = (1, 3, 6, 1, 2, 1, 1)
-CONTROL, STATUS, CLOCK = ASC + (4, 14, 0), ASC + (4, 10, 0), OWN + (2, 1, 0)
-COUNTER_OF_CYCLE, MODE = OWN + (2, 2, 0), OWN + (2, 4, 0)
-GLOBAL_TIME, TRANSACTION = GLOBAL + (3, 1, 0), GLOBAL + (2, 1, 0)
-VERIFY_STATUS, VERIFY_ERROR = GLOBAL + (2, 6, 0), GLOBAL + (2, 7, 0)
-PHASE_CONTROL, PREEMPT_CONTROL, DETECTOR_GROUP = ASC + (1, 5, 1), ASC + (6, 3, 1), ASC + (2, 4, 1)
-VEH_CALL, PED_CALL = PHASE_CONTROL + (6,), PHASE_CONTROL + (7,)
-PREEMPT_STATE = PREEMPT_CONTROL + (2,)
 FLASH, COORD, SEEK = 6, 4, 3
 DAY = 86_400
 COUNTER_END = 1 << 32
@@ -187,10 +183,9 @@ ORDER = sorted(OBJECTS)
 WRITABLE: set[Arcs] = {GLOBAL_TIME, TRANSACTION}
 WRITABLE |= {column + (group,) for column in (VEH_CALL, PED_CALL) for group in (1, 2)}
 WRITABLE |= {PREEMPT_STATE + (n,) for n in range(1, 9)}
-TABLES = [ASC + it for it in ((1, 2, 1), (4, 7, 1), (4, 9, 1), (6, 2, 1), (7, 3, 1))]
-UNIT = [ASC + (4, 2, 0), *(OWN + (3, n, 0) for n in range(1, 8))]
+TABLES = [*ENTRIES.values(), SEQUENCE_ENTRY]
 
 
 def is_cell(name: Arcs) -> bool:
     """Tells whether a name is one of a cell of the tables."""
-    return name in UNIT or any(name[: len(table)] == table for table in TABLES)
+    return name in UNIT.values() or any(name[: len(table)] == table for table in TABLES)

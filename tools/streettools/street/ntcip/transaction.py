@@ -1,14 +1,13 @@
 """Tables set within a transaction of NTCIP 1201, as a download of the profile: begin, parts, verify, finish."""
 
 from ...shared.ber import Arcs
+from ...shared.oids import BEGIN, DETAIL, FINISH, ID, OUTCOME, PART, ROW, TOTAL
 from ...shared.snmp import Binding
-from .objects import OWN, Front
+from .objects import Front
 from .pdus import GEN_ERR, Fault, whole
 
 NORMAL, GATHERING, VERIFY, DONE = 1, 2, 3, 6
 NOT_DONE, WITH_ERROR, WITHOUT_ERROR = 1, 2, 3
-BEGIN, ID, PART, TOTAL, FINISH = (OWN + (1, n, 0) for n in (2, 3, 4, 5, 6))
-OUTCOME, DETAIL, ROW = (OWN + (1, n, 0) for n in (7, 8, 9))
 CELLS_OF_A_PART, TRIES, REFUSED = 24, 128, 8
 MOST_CELLS = 768
 """How many cells a download may have."""

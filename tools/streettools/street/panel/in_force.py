@@ -7,6 +7,7 @@ import itertools
 from collections.abc import Awaitable, Callable
 from typing import Any
 
+from ...shared.oids import VERSION, object_of
 from ...shared.tables import ALL, Tables
 
 Name = tuple[int, ...]
@@ -15,28 +16,12 @@ Values = list[int | tuple[int, ...]]
 Asked = Callable[[list[Name]], Awaitable[Values | None]]
 """Gets some objects: their numbers, or octets; None where the cabinet is silent."""
 
-NTCIP, OWN = (1, 3, 6, 1, 4, 1, 1206, 4, 2, 1), (1, 3, 6, 1, 4, 1, 32473, 1)
-VERSION: Name = (*OWN, 1, 10, 0)
 REFERENCE = ("unit", 8)
 PHASE_COLUMNS, PATTERN_COLUMNS, SPLIT_COLUMNS = (8, 9, 21, 22, 23), (2, 3, 4, 5), (3, 5)
 """Clearances, options, ring and partners of phases; cycle, offset, split and sequence of patterns; times of splits,
 and which phases they coordinate."""
 AT_ONCE = 30
 """How many objects a message asks for, beside the version."""
-
-
-def name_of(cell: Cell) -> Name:
-    """Returns the object that holds a cell."""
-    match cell:
-        case "phase", phase, column:
-            return (*NTCIP, 1, 2, 1, column, phase)
-        case "pattern", pattern, column:
-            return (*NTCIP, 4, 7, 1, column, pattern)
-        case "split", split, phase, column:
-            return (*NTCIP, 4, 9, 1, column, split, phase)
-        case "sequence", sequence, ring:
-            return (*NTCIP, 7, 3, 1, 3, sequence, ring)
-    return (*OWN, 3, 7, 0)
 
 
 class Changed(Exception):
@@ -47,7 +32,7 @@ async def taken(asked: Asked, cells: list[Cell], tables: Tables, version: int) -
     """Puts the values of some cells into tables, all of them of this version."""
     for at in range(0, len(cells), AT_ONCE):
         part = cells[at : at + AT_ONCE]
-        values = await asked([VERSION, *map(name_of, part)])
+        values = await asked([VERSION, *map(object_of, part)])
         if values is None or values[0] != version:
             raise Changed
         tables.cells.update(zip(part, values[1:], strict=True))

@@ -7,13 +7,14 @@ import re
 from ...cabinet.messages import reply_of
 from ...shared.answers import ERRORS
 from ...shared.ber import INTEGER, NULL, OCTETS, Arcs, Field, Malformed, number_of
+from ...shared.oids import ENTERPRISES, dotted
 from ...shared.snmp import BULK, GET, GET_NEXT, RESPONSE, SET, Binding, message_of
 
 HERE = pathlib.Path(__file__).resolve()
 MIB = "ARTERIAL-PROFILE-MIB"
 PLACES = [HERE.parents[4] / "mibs" / MIB, *(it / "share/snmp/mibs" / MIB for it in HERE.parents[4:6])]
 """Where the MIB may be: in the checkout, or in an installation."""
-ROOTS = {"enterprises": (1, 3, 6, 1, 4, 1)}
+ROOTS = {"enterprises": ENTERPRISES}
 KIND = r"(?:OBJECT-TYPE|OBJECT IDENTIFIER|MODULE-IDENTITY)"
 ASSIGNED = re.compile(r"^([a-z]\w*)\s+" + KIND + r"\b.*?::= \{ (\w+) (\d+) \}", re.M | re.S)
 KINDS = {GET: "Get", GET_NEXT: "GetNext", SET: "Set", RESPONSE: "Response", BULK: "GetBulk"}
@@ -46,7 +47,7 @@ def named(arcs: Arcs) -> str:
     for length in range(len(shown), 7, -1):
         if name := names().get(shown[:length]):
             return ".".join([name, *map(str, shown[length:])]) + rest
-    return ".".join(map(str, shown)) + rest
+    return dotted(shown) + rest
 
 
 def clipped(text: str) -> str:

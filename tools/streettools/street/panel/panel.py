@@ -9,6 +9,7 @@ from typing import Any
 from aiohttp import WSMsgType, web
 
 from ...cabinet.messages import GET, message
+from ...shared import oids
 from ...shared.fault import Fault
 from ...shared.status import Status
 from ..street import Hearer, Street
@@ -22,18 +23,17 @@ EVERY, DETAILS_EVERY, GREENS_EVERY = 0.2, 0.5, 2.0
 """How often, in seconds, pages get news, details of the cabinet that they look at, and greens."""
 MOST_WAITING = 40
 """How many texts may wait for a page before it is dropped."""
-NTCIP, OWN = (1, 3, 6, 1, 4, 1, 1206, 4, 2, 1), (1, 3, 6, 1, 4, 1, 32473, 1)
 DETAILS = {
-    "command": (*NTCIP, 4, 14, 0),
-    "status": (*NTCIP, 4, 10, 0),
-    "clock": (*OWN, 2, 1, 0),
-    "counter": (*OWN, 2, 2, 0),
-    "target": (*OWN, 2, 3, 0),
-    "version": (*OWN, 1, 10, 0),
-    "vehicles1": (*NTCIP, 1, 4, 1, 8, 1),
-    "vehicles2": (*NTCIP, 1, 4, 1, 8, 2),
-    "people1": (*NTCIP, 1, 4, 1, 9, 1),
-    "people2": (*NTCIP, 1, 4, 1, 9, 2),
+    "command": oids.CONTROL,
+    "status": oids.STATUS,
+    "clock": oids.CLOCK,
+    "counter": oids.COUNTER_OF_CYCLE,
+    "target": oids.TARGET,
+    "version": oids.VERSION,
+    "vehicles1": (*oids.STATUS_GROUP, 8, 1),
+    "vehicles2": (*oids.STATUS_GROUP, 8, 2),
+    "people1": (*oids.STATUS_GROUP, 9, 1),
+    "people2": (*oids.STATUS_GROUP, 9, 2),
 }
 """What a page gets of the cabinet that it looks at, read as management software reads it."""
 
