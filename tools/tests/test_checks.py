@@ -24,8 +24,8 @@ def test_the_linter_finds_nothing():
 
 
 def test_the_types_agree():
-    """tools/pyproject.toml says what is checked strictly, and which modules are not checked yet. The cache is outside of
-    the checkout; a call without one takes 20 s."""
+    """tools/pyproject.toml says what is checked strictly, and which modules are not checked yet. The cache is outside
+    of the checkout; a call without one takes 20 s."""
     cache = pathlib.Path(os.environ.get("XDG_CACHE_HOME") or "~/.cache").expanduser() / "arterial" / "mypy"
     status, said = ran("mypy", "--config-file", "pyproject.toml", "--cache-dir", str(cache), folder=TOP / "tools")
     assert status == 0, said

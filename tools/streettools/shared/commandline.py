@@ -2,10 +2,11 @@
 
 import argparse
 from collections.abc import Callable, Sequence
-from typing import Any
+from typing import Any, NoReturn
 
 from .saying import say
 from .short_help import ShortHelp
+from .status import Status
 from .version import VERSION
 
 
@@ -23,6 +24,12 @@ class Parser(argparse.ArgumentParser):
         self.add_argument("--version", action="version", version=f"arterial {VERSION}")
         # the boundary takes this option away before the others are read
         self.add_argument("--traceback", action="store_true", help="if this tool has a fault, show where")
+
+
+    def error(self, message: str) -> NoReturn:
+        """Refuses the words in one line."""
+        say(self.prog.removeprefix("arterial "), f"{message}; --help lists the options")
+        raise SystemExit(int(Status.REFUSED))
 
 
 class Renamed(argparse.Action):

@@ -53,7 +53,7 @@ def scenario_of(program: pathlib.Path, text: bytes) -> dict[str, Any]:
 
 def asked_for(given: argparse.Namespace, program: pathlib.Path) -> tuple[dict[str, Any], list[bytes]]:
     """Returns the scenario that the words ask for, and the requests that are to happen again in it."""
-    if again := given.replay or given.resume:
+    if again := words.again(given):
         text, requests = read_requests(pathlib.Path(again))
         return scenario_of(program, text), requests
     if given.scenario:
@@ -157,11 +157,15 @@ def checked(given: argparse.Namespace) -> str | None:
         return "--addresses are those of loopback; --bind names one address"
     if given.ticks_per_message is not None and not words.is_step(given):
         return "--ticks-per-message needs --speed step"
+    if given.speed == 0 and given.panel is None:
+        return "--speed 0 needs --panel, which starts the time"
     if given.allow_host and (given.panel is None or not given.bind):
         return "--allow-host goes with --panel and --bind"
     if given.panel is not None and words.is_anywhere(given.bind) and not given.allow_host:
         return f"--panel with --bind {given.bind} needs --allow-host NAME: how browsers call this machine"
-    if (given.replay or given.resume) and given.scenario:
+    if given.resume == "" and not given.record:
+        return "--resume without FILE goes on with the record of --record"
+    if words.again(given) and given.scenario:
         return "a record has its own scenario"
     return None
 

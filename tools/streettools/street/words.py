@@ -24,9 +24,12 @@ def speed(text: str) -> float | str:
     """Reads a speed: a factor of real time, or the word for time that advances by messages."""
     if text == STEP:
         return STEP
-    value = float(text)
-    if not SLOWEST <= value <= FASTEST:
-        raise argparse.ArgumentTypeError(f"{text} is not {STEP}, nor from {SLOWEST} to {FASTEST:g}")
+    try:
+        value = float(text)
+    except ValueError:
+        value = -1
+    if value != 0 and not SLOWEST <= value <= FASTEST:
+        raise argparse.ArgumentTypeError(f"{text!r} is not {STEP}, 0, nor from {SLOWEST} to {FASTEST:g}")
     return value
 
 
@@ -82,7 +85,8 @@ def parser() -> argparse.ArgumentParser:
         type=speed,
         default=1.0,
         metavar="N",
-        help="speed in multiples of real time, 0.01 to 1000; step: time advances by messages (default: 1)",
+        help="speed in multiples of real time, 0.01 to 1000; 0 with --panel: time stands still until the panel starts "
+        "it; step: time advances by messages (default: 1)",
     )
     add_renamed(
         words, "--step", "--ticks-per-message", type=number(0, 864_000), metavar="TICKS",
@@ -108,7 +112,9 @@ def parser() -> argparse.ArgumentParser:
         "--replay", metavar="FILE", help="replay this record in real time; then the street continues"
     )
     again.add_argument(
-        "--resume", metavar="FILE", help="replay this record at once; then the street continues"
+        "--resume", metavar="FILE", nargs="?", const="",
+        help="replay at once the record of an earlier street (without FILE: that of --record); then the street "
+        "continues",
     )
     words.add_argument(
         "--as", dest="front", choices=["ntcip1202"], help="answer more than the proved profile does (docs/SNMP-CONFORMANCE.md)"
@@ -120,6 +126,11 @@ def parser() -> argparse.ArgumentParser:
 def first_place(given: argparse.Namespace) -> Place:
     """Returns where the first cabinet answers."""
     return Place(given.bind or given.addresses or LOOPBACK, given.ports)
+
+
+def again(given: argparse.Namespace) -> str | None:
+    """Returns the record that is to happen again."""
+    return given.record if given.resume == "" else given.resume or given.replay
 
 
 def is_anywhere(address: str | None) -> bool:

@@ -134,6 +134,22 @@ def refused(*words):
     return ran.returncode, ran.stderr.splitlines()[-1]
 
 
+@pytest.mark.parametrize("speed", ["-1", "-0.5", "0.009", "1001", "1e400", "1e-400x", "inf", "-inf", "nan", "", "fast"])
+def test_a_speed_that_isnt_one_is_refused_in_one_line(speed):
+    command = [sys.executable, "-B", TOP / "tools/streettools", "street", f"--speed={speed}"]
+    ran = subprocess.run(command, capture_output=True, text=True, timeout=SECONDS, cwd=TOP)
+    line = f"argument --speed: {speed!r} is not step, 0, nor from 0.01 to 1000; --help lists the options"
+    assert (ran.returncode, ran.stdout, ran.stderr) == (2, "", f"street: {line}\n")
+
+
+def test_a_street_that_stands_until_its_panel_starts_it_answers(street):
+    pytest.importorskip("aiohttp")
+    running = street("--ports", 0, "--speed", 0, "--panel", 0)
+    first = reply_of(running.ask(get(1, CLOCK))).bindings
+    time.sleep(0.4)
+    assert reply_of(running.ask(get(2, CLOCK))).bindings == first
+
+
 def test_what_is_wrong_is_told(tmp_path):
     wrong = written(tmp_path, TWO | {"speed": 45})
     assert refused("--scenario", wrong) == (2, "street: scenario: field speed")
@@ -145,8 +161,9 @@ def test_what_is_wrong_is_told(tmp_path):
     )
     assert refused("--record", tmp_path) == (1, f"street: {tmp_path}: Is a directory")
     assert refused("--addresses", "10.0.0.1+")[0] == 2
-    assert refused("--speed", "0")[0] == 2
+    assert refused("--speed", "0") == (2, "street: --speed 0 needs --panel, which starts the time")
     assert refused("--ticks-per-message", 5) == (2, "street: --ticks-per-message needs --speed step")
+    assert refused("--resume") == (2, "street: --resume without FILE goes on with the record of --record")
     assert refused("--program", tmp_path / "none") == (125, f"street: no program at {tmp_path / 'none'}")
     with socket.socket(socket.AF_INET, socket.SOCK_DGRAM) as other:
         other.bind(("127.0.0.1", 0))

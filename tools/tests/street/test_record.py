@@ -55,20 +55,12 @@ def test_a_record_that_happens_again_gives_the_same_cabinet(street, tmp_path):
     assert running.end() == 0
 
 
-def test_a_record_is_resumed_into_itself(street, tmp_path):
+@pytest.mark.parametrize("is_named", [True, False])
+def test_a_record_is_resumed_into_itself(street, tmp_path, is_named):
     first = recorded(street, tmp_path / "session.trace")
-    running = street(
-        "--ports",
-        0,
-        "--speed",
-        "step",
-        "--ticks-per-message",
-        7,
-        "--resume",
-        tmp_path / "session.trace",
-        "--record",
-        tmp_path / "session.trace",
-    )
+    named = [tmp_path / "session.trace"] if is_named else []
+    words = ("--ports", 0, "--speed", "step", "--ticks-per-message", 7)
+    running = street(*words, "--record", tmp_path / "session.trace", "--resume", *named)
     running.told("ticks have happened again")
     running.ask(set_clock(1, 5))
     assert running.end() == 0
