@@ -103,11 +103,11 @@ show_refusal() {
         (set_python && "$found" -B "$tools/streettools" launch refused "$@")
         return
     fi
-    case $1:$2 in
-    run:* | respond:*) say "with the name of a file, arterial $1 FILE also shows what was expected and what was found" ;;
-    esac
     case $2 in
     *"not JSON") say "one cause can be a byte order mark (EF BB BF) at its beginning, which does not belong to JSON" ;;
+    esac
+    case $1:$2 in
+    run:* | respond:*) say "with the name of a file, arterial $1 FILE also shows what was expected and what was found" ;;
     esac
 }
 

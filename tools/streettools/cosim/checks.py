@@ -45,7 +45,7 @@ def check_signals(street: Map, network: Network, cabinets: int) -> None:
     """Each signal of the network is in the map once, each cabinet has a signal."""
     named = [it.id for it in street.signals] + list(street.own)
     if twice := next((it for it in named if named.count(it) > 1), None):
-        raise refused(street, f"signal {twice}", "stands in the map twice")
+        raise refused(street, f"signal {twice}", "is in the map twice")
     for name in named:
         if name not in network.links:
             words = f"{network.path.name} has none of this name: a map of another network?"
@@ -110,10 +110,10 @@ def check_overlaps(street: Map, signal: MappedSignal, tables: Tables) -> None:
         if overlap is None:
             continue
         if overlap.yellow < 30:
-            raise refused(street, place, "the yellow change of an overlap is 3.0 s at least (30 ticks)")
+            raise refused(street, place, "the yellow change of an overlap must be at least 3.0 s (30 ticks)")
         for phase in overlap.parents:
             if phase not in tables.enabled() or overlap.parents.count(phase) > 1:
-                raise refused(street, place, f"parent {phase} is not enabled, or stands twice")
+                raise refused(street, place, f"parent {phase} is not enabled, or is a duplicate")
             if overlap.trail + overlap.yellow + overlap.red > tables.clearance(phase):
                 raise refused(street, place, f"trail, yellow and red take longer than phase {phase} clears in")
 

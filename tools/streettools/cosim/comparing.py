@@ -91,7 +91,7 @@ def read_comparison(path: pathlib.Path) -> Comparison:
     plans = given.each("plan", plan_of)
     names = [it.name for it in plans]
     if len(plans) < 2 or len(set(names)) < len(names):
-        raise given.refuse("plan", "has to stand there twice or more, each with a name of its own")
+        raise given.refuse("plan", "is needed at least twice, each with a different name")
     step, against = given.take("step", NUMBER, 1), given.take("against", str, names[0])
     if step not in (0.1, 1):
         raise given.refuse("step", "has to be 0.1 or 1")
@@ -112,7 +112,7 @@ def read_comparison(path: pathlib.Path) -> Comparison:
     )
     given.end()
     if 2 * found_one.warm >= found_one.seconds:
-        raise given.refuse("warm", "leaves nothing: it is taken from the beginning and from the end")
+        raise given.refuse("warm", "leaves nothing: it is cut off at the beginning and at the end")
     return found_one
 
 
@@ -205,7 +205,7 @@ def do_all(jobs: list[Job], workers: int, progress: Callable[[int], object]) -> 
             return [it.result() for it in waiting]
         except BrokenProcessPool:
             dead = next(job for job, it in zip(jobs, waiting) if it.exception() is not None)
-            words = f"SUMO died under plan {dead.plan.name}, seed {dead.seed}, or a plan beside it"
+            words = f"SUMO crashed under plan {dead.plan.name}, seed {dead.seed}, or under a plan that ran in parallel"
             raise Fault(words, Status.FILE) from None
         except BaseException:
             pool.shutdown(cancel_futures=True)

@@ -98,7 +98,7 @@ class Compass:
         beside = (arm - 1) % 4
         way = beside if self.ways.get(beside) else (beside + 2) % 4
         if not self.ways.get(way):
-            why = f"no traffic drives beside the crossing on the {WAYS[arm]} side"
+            why = f"no traffic drives parallel to the crossing on the {WAYS[arm]} side"
             return LinkPhase(link, f"ped {WAYS[arm]}", None, why)
         return LinkPhase(link, f"ped {WAYS[arm]}", self.straight(way))
 

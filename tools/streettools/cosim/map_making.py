@@ -83,7 +83,7 @@ class Maker:
         for cabinet, signal in enumerate(self.network.links, 1):
             parts.append(self.signal(signal, cabinet))
         if unused := next((it for it in self.answers if it not in self.used), None):
-            raise Fault(f"--phase: there is no movement {unused[1]} at signal {unused[0]}")
+            raise Fault(f"--phase: signal {unused[0]} has no movement {unused[1]}")
         return "\n".join(parts)
 
     def told(self, signal: str) -> list[LinkPhase]:

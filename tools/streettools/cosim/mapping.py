@@ -134,7 +134,7 @@ def movement_of(given: Given) -> MappedMovement:
     if not found.links:
         raise given.refuse("links", "is missing")
     if found.permissive is not None and (overlap or found.walk or found.permissive == phase):
-        raise given.refuse("permissive", "is another phase than that of vehicles, and goes with no overlap and no walk")
+        raise given.refuse("permissive", "must differ from the phase of vehicles, without overlap or walk")
     return found
 
 

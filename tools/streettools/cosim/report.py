@@ -166,7 +166,7 @@ def text(value: Value) -> str:
     if rows:
         parts.append(table(rows[:SHOWN], {"route": "route", "kind": "who"} | ROUTES))
     if len(rows) > SHOWN:
-        parts.append(f"{len(rows) - SHOWN} more routes stand in the report as JSON\n")
+        parts.append(f"{len(rows) - SHOWN} more routes are in the report as JSON\n")
     return "\n".join(parts)
 
 

@@ -47,7 +47,7 @@ def by_program(program: str, scenario: bytes, before: bytes) -> bytes | None:
 def model_parts() -> tuple:
     """Returns the parts of the model that are needed."""
     if not has_model():
-        raise Untold("the model, which tells it where journals have this order, isn't here")
+        raise Untold("the model, which gives it for this order of journals, isn't here")
     from model import lines, run, scenario_read
 
     return lines, run, scenario_read
@@ -65,7 +65,7 @@ def by_model(scenario: bytes, read: list[bytes]) -> bytes:
         for line in read:
             told = due.send(lines.runs_of(line) if isinstance(told, run.JournalDue) else None)
             if time.monotonic() > end:
-                raise Untold(f"the model, which tells it where journals have this order, takes over {SECONDS} seconds")
+                raise Untold(f"the model, which gives it for this order of journals, takes over {SECONDS} seconds")
     except StopIteration:
         return b""
     return lines.journal_line(told.cabinet, told.serial()) if isinstance(told, run.JournalDue) else told
@@ -111,7 +111,7 @@ def behind(program: str, text: bytes, number: int) -> list[str]:
     try:
         due = line_due(program, before)
     except Untold as why:
-        return [shown(read, read)[0], f"due   not told: {why}"]
+        return [shown(read, read)[0], f"due   unknown: {why}"]
     pieces = shown(read, due)
     if len(before) == len(text):
         pieces[0] = ENDED
@@ -131,7 +131,7 @@ def told(program: str, text: bytes, said: str) -> list[str]:
     number = int(found[1])
     read, due = at_opening(program, text.partition(b"\n")[0]) if number == 1 else behind(program, text, number)
     is_same = read.removeprefix("read") == due.removeprefix("due ")
-    return [read, due + "   (with a newline behind it)" * is_same]
+    return [read, due + "   (with a newline after it)" * is_same]
 
 
 def tell(program: str, text: bytes, said: str) -> None:

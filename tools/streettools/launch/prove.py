@@ -36,9 +36,9 @@ def parser() -> argparse.ArgumentParser:
     """Returns the reader of the options of `prove`."""
     words = Parser(
         "prove",
-        description="Proves everything that the program depends on, and builds it. If interrupted, the next call continues; "
-        "of two calls at once one proves and the other waits. It takes about 25 minutes on four processors, and 15 GB of "
-        "disk while it runs.",
+        description="Proves everything that the program depends on, and builds it. If interrupted, the next call "
+        "continues; of two calls at once one proves and the other waits. It takes about 25 minutes on four processors, "
+        "and 15 GB of disk while it runs.",
         epilog="example: ./arterial prove && ./arterial run scenarios/one-cabinet.json",
     )
     words.add_argument(
@@ -201,7 +201,7 @@ def main(given: list[str]) -> int:
         say("arterial", fault)
         return Status.NO_PROGRAM
     except KeyboardInterrupt:
-        say("arterial", "interrupted: the crates that are done are kept, and ./arterial prove goes on")
+        say("arterial", "interrupted: finished crates are kept, and ./arterial prove continues")
         return Status.INTERRUPTED
     say("arterial", f"proved and built in {(time.monotonic() - begun) / 60:.0f} minutes: {record.program_of(top)}")
     return Status.DONE

@@ -116,7 +116,7 @@ def main(given: list[str]) -> int:
         (record.program_of(top).parent / ".building").touch()
         with prove.alone(top):
             if prove.is_proved(top) and not prove.is_taken(top):
-                say("arterial", "take: the program is proved here already, so nothing is taken over")
+                say("arterial", "take: the program is already proved here, so nothing changes")
                 return Status.DONE
             maker = take(top, words.file, words.sum)
     except Refused as fault:

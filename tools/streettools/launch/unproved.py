@@ -37,8 +37,8 @@ OWN = re.compile(rb"^(?:interpreter|checked|races|run=)", re.M)
 
 WAY = "./arterial prove (or ./test) proves the program here, which has no such limit"
 LIMITS = (
-    (rb"wrote more than \d+ bytes", f"the answer is longer than 1 MiB, which a run without proofs can't give. {WAY}"),
-    (rb"did not end within the time limit", f"the answer takes longer than {SECONDS} seconds without proofs. {WAY}"),
+    (rb"wrote more than \d+ bytes", f"the answer is longer than 1 MiB, which an unproved run can't give. {WAY}"),
+    (rb"did not end within the time limit", f"the answer takes longer than {SECONDS} seconds unproved. {WAY}"),
 )
 """What the kit says where a limit ended the run, and what is said of it here."""
 
@@ -57,7 +57,7 @@ def given(stream: BinaryIO, to: BinaryIO) -> None:
     while part := stream.read1(1 << 20):
         size += len(part)
         if size > MOST_INPUT:
-            raise Unfinished(f"the input is longer than 64 MiB, which a run without proofs can't take. {WAY}")
+            raise Unfinished(f"the input is longer than 64 MiB, which an unproved run can't read. {WAY}")
         to.write(part)
     to.seek(0)
 

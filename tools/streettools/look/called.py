@@ -54,9 +54,9 @@ class Called:
         if not phases:
             return ""
         if len(phases) == 1:
-            return f"left out: phase {phases[0]}, a partner that the rings alone need"
+            return f"left out: phase {phases[0]}, a placeholder phase that only the rings need"
         listed = ", ".join(map(str, phases[:-1]))
-        return f"left out: phases {listed} and {phases[-1]}, partners that the rings alone need"
+        return f"left out: phases {listed} and {phases[-1]}, placeholder phases that only the rings need"
 
     def key(self, number: int, phases: set[int]) -> str:
         """Returns the names of those of the phases that have one, and what is left out."""

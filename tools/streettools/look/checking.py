@@ -52,7 +52,7 @@ class Check:
         if status == 0:
             say("look", f"checked: {self.called} is a trace")
         elif status == NO_TRACE and line != TOO_LONG:
-            raise Fault(f"checked: {self.called} is no trace ({line}); --no-check shows it as far as its lines go")
+            raise Fault(f"checked: {self.called} is not a trace ({line}); --no-check shows it as far as it can be read")
         elif status not in program.NONE_HERE:
             say("look", f"not checked: {line or f'the program ended with status {status}'}")
 

@@ -181,8 +181,8 @@ def draw_planned(axes, found, delays, heights, corner):
             continue
         if corner.beat is None:
             raise planned.NoBands(
-                f"cabinet {corner.cabinet.number} is in no pattern in what is shown, so the times of its cycle aren't "
-                "told"
+                f"cabinet {corner.cabinet.number} is never coordinated in this time range, so the times of its cycle "
+                "are unknown"
             )
         for low, high in planned.spans(band, corner.beat, corner.start - max(away), corner.end):
             left = [((low + it) / 10, height) for it, height in zip(away, heights)]

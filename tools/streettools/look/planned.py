@@ -40,7 +40,8 @@ def spans(band, beat, start, end):
     end."""
     if band.start >= beat.cycle or band.width >= beat.cycle:
         raise NoBands(
-            f"a band of {band.width / 10:g} s from {band.start / 10:g} s on is none of a cycle of {beat.cycle / 10:g} s"
+            f"a band of {band.width / 10:g} s from {band.start / 10:g} s on doesn't fit a cycle of {beat.cycle / 10:g}"
+            " s"
         )
     first = (band.start - beat.ahead) % beat.cycle
     turns = range(-((first + band.width - start) // beat.cycle), (end - first) // beat.cycle + 1)

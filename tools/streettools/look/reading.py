@@ -54,7 +54,7 @@ class Checked(TraceReader):
         """Makes sure that the trace came to its end, and that the check found it to be one."""
         self.answered()
         if not self.whole:
-            raise Fault(f"line {self.line} is no line of a trace: it ends before its Z line")
+            raise Fault(f"line {self.line} is not a line of a trace: the trace ends before its Z line")
 
 
 def read(name, is_checked, show):

@@ -145,7 +145,7 @@ def put_kept(path: str, source: Source, street: Street, changes: list) -> bool:
         say("plan", "comments are left out: Debian's package python3-tomlkit keeps them")
         return False
     if text is None:
-        say("plan", "comments are left out, since the splits stand where they can't be changed alone")
+        say("plan", "comments are left out, since the splits can't be changed in place")
         return False
     write(path, text)
     return True
@@ -168,7 +168,7 @@ def draw(words: argparse.Namespace) -> int:
         raise Refused("\n".join(f"{words.file}: {it}" for it in source.errors))
     cabinets = source.street.scenario["cabinets"]
     if words.intersection > len(cabinets):
-        raise Refused(f"{words.file}: there is no intersection {words.intersection}")
+        raise Refused(f"{words.file}: intersection {words.intersection} doesn't exist")
     if pathlib.Path(words.output).suffix not in PICTURES:
         raise Refused(f"{words.output}: a picture's name ends in " + ", ".join(PICTURES))
     known, called = source.street.names.intersection(words.intersection), source.street.names.called(words.intersection)
@@ -250,7 +250,7 @@ def do_loads(words: argparse.Namespace) -> int:
     old, new = (taken(path).street for path in (words.old, words.new))
     found = loads.between(old, new, words.round, words.flash)
     if words.flash:
-        say("plan", "these downloads are taken while the cabinets flash (pattern 255) alone")
+        say("plan", "cabinets accept these downloads only in flash (pattern 255)")
     if words.sets is None:
         write_scenario(words.output, {"loads": found})
         return Status.DONE

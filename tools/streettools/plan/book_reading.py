@@ -94,7 +94,7 @@ def read(content: bytes) -> tuple[dict, list[str]]:
         elif first == STREET:
             read_street(rows, sheet)
         elif rows:
-            words = f'page {page.title!r} is none of this kind: its first cell says neither "{STREET}" nor "{FIRST}"'
+            words = f'page {page.title!r} is not of a sheet: its first cell is neither "{STREET}" nor "{FIRST}"'
             raise Unreadable([Fault("", words)])
     return sheet, notes
 
@@ -104,7 +104,7 @@ def from_json(value: object, name: str) -> object:
     try:
         return json.loads(str(value))
     except ValueError:
-        raise Unreadable([Fault(name, f"{str(value)[:40]!r} is no JSON")]) from None
+        raise Unreadable([Fault(name, f"{str(value)[:40]!r} is not valid JSON")]) from None
 
 
 def read_value(name: str, value: object) -> object:

@@ -42,7 +42,7 @@ def broken_loads(street: Street, tables: list[Tables]) -> Iterator[Finding]:
         if not found:
             in_force[number - 1] = new
             continue
-        head = f"download {counts[number]}, due in round {load['round']}, will be refused: "
+        head = f"download {counts[number]}, sent in round {load['round']}, will be refused: "
         for words in sentences(new, street.names.intersection(number), found[0], before):
             yield replace(warn(street.names.called(number), head + words), rule=found[0].rule)
 

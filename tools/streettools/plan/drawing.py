@@ -43,7 +43,7 @@ def phases_in(text: str) -> tuple[int, ...]:
     words = [] if text.strip() in ("", "-") else text.split()
     for word in words:
         if not word.isdecimal() or len(word) > 2 or int(word) not in ALL:
-            raise Wrong(f"{word!r} in {text.strip()!r} is no phase from 1 to 16")
+            raise Wrong(f"{word!r} in {text.strip()!r} is not a phase from 1 to 16")
     return tuple(map(int, words))
 
 
@@ -176,7 +176,7 @@ def read_order(given: object) -> list[tuple]:
     for line in given:
         words = [word for word in line.replace("|", " ").split() if word != "-"]
         if any(not word.isdecimal() or int(word) > 255 for word in words) or len(words) > 16:
-            raise Wrong(f"{line!r} is no order of at most 16 phases")
+            raise Wrong(f"{line!r} is not an order of at most 16 phases")
         rings.append(tuple(map(int, words)))
     return rings
 

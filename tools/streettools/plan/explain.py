@@ -14,45 +14,47 @@ RULES = {
     1: "the ring of an enabled phase is 1 or 2",
     2: "the list of concurrent phases holds phases 1 to 16, and not the phase itself",
     3: "each phase of the list has this one in its own list",
-    4: "the list names phases of the other ring alone",
+    4: "the list has only phases of the other ring",
     5: "some phase of the list is enabled",
     6: "two phases of a ring with a concurrent phase in common have the same ones",
-    7: "there are two sides of the barrier or more",
+    7: "there are at least two barrier groups",
     8: "each ring of a sequence has each of its enabled phases once, and nothing else",
-    9: "the phases of a side come one after another, and the sides in the same order in both rings",
+    9: "the phases of a barrier group follow each other, and both rings have the groups in the same order",
     10: "the yellow change is 3.0 s or more",
-    11: "the red revert is no longer than the least service and clearance of any other phase together",
+    11: "the red revert is at most the minimum service and clearance of any other phase together",
     12: "phases that turn green as start-up ends may be on together",
     13: "offsets are corrected by dwell, shortway or add only, and the limits are above 0",
     14: "a pattern runs a split 1 to 32, and a sequence 1 to 16 that isn't empty",
     15: "the offset is less than the cycle",
     16: "a pattern coordinates one phase of each ring; both may be on together, and neither is omitted",
-    17: "the splits of each ring come to the cycle, and on each side those of both rings to the same",
-    18: "a phase that is neither coordinated nor omitted has time in its split for its least service "
+    17: "the splits of each ring total the cycle, and in each barrier group those of both rings total the same",
+    18: "a phase that is neither coordinated nor omitted has time in its split for its minimum service "
     "and the clearances",
-    19: "the coordinated phases stay green together long enough for the correction of offsets and their least service",
-    20: "track, dwell and exit phases of a preempt are enabled, none twice, and may be on together",
+    19: "the coordinated phases stay green together long enough for the correction of offsets and their minimum "
+    "service",
+    20: "track, dwell and exit phases of a preempt are enabled, without duplicates, and may be on together",
     21: "a download leaves the enabled phases, their rings and lists as they are, unless the cabinet is in flash",
     22: "a phase without walk has no pedestrian clearance",
 }
 TRACE_RULES = {
-    1: "the text is longer than 67,108,864 bytes", 2: "these bytes are no line of a trace",
-    3: "line 1 is no S line of a scenario that can be run",
-    4: "a line of another kind, cabinet or number is due here",
-    5: "the journal doesn't take each item of the cabinet's round once",
-    6: "another frame is due here", 7: "another reply is due here", 8: "another end of a download is due here",
-    9: "another note of the master is due here", 10: "the text ends before its Z line",
-    11: "something stands behind the Z line",
+    1: "the text is longer than 67,108,864 bytes", 2: "these bytes are not a line of a trace",
+    3: "line 1 is not the S line of a valid scenario",
+    4: "a line of another kind, cabinet or number is expected here",
+    5: "the journal doesn't have each item of the cabinet's round once",
+    6: "a different F line is expected here", 7: "a different reply is expected here",
+    8: "a different end of a download is expected here",
+    9: "a different note of the master is expected here", 10: "the text ends before its Z line",
+    11: "something follows the Z line",
 }  # fmt: skip
 OVERLAP_RULES = {
-    1: "the trace has no cabinet of this number", 2: "this parent is no enabled phase, or is named twice",
+    1: "the trace has no cabinet with this number", 2: "this parent isn't an enabled phase, or is a duplicate",
     3: "the yellow change of an overlap is 3.0 s or more",
     4: "trail, yellow and red clearance together take longer than this parent may clear in",
 }  # fmt: skip
 OTHERS = {
     "read fault": "the input couldn't be read",
     "write fault": "the output couldn't be written: a full disk, or a pipe that was closed",
-    "out of memory": "the program found no memory",
+    "out of memory": "the program ran out of memory",
 }  # fmt: skip
 
 
@@ -67,6 +69,8 @@ def of_refusal(content: bytes, line: str) -> list[str]:
         try:
             value = jsontext.read(content)
         except jsontext.NoJson as fault:
+            if line != "scenario: not JSON":
+                raise NotKnown("the file is not JSON") from None
             return [str(fault)]
         found = next((it for it in sources.faults_of(content.decode(), value) if it.line == line), None)
         if found is None:
@@ -79,7 +83,7 @@ def fault_of_value(source: Source, line: str) -> list[str]:
     """Returns what is wrong with a name or a value."""
     found = [it for it in source.errors if it.line == line]
     if not found:
-        raise NotKnown("the file as it stands doesn't have this fault")
+        raise NotKnown("the file doesn't have this fault")
     return [str(it) for it in found[:1]]
 
 
@@ -120,10 +124,10 @@ def refused_load(source: Source, line: str, found: re.Match) -> list[str]:
 def said(street, number: int, broken: rules.Broken, all_broken: list[rules.Broken], words: Callable) -> list[str]:
     """Returns what a rule asks, and the sentences about its row."""
     if broken.rule not in RULES:
-        raise NotKnown(f"there is no rule {broken.rule}")
-    asks = f"rule {broken.rule} asks: {RULES[broken.rule]}"
+        raise NotKnown(f"rule {broken.rule} doesn't exist")
+    asks = f"rule {broken.rule} requires: {RULES[broken.rule]}"
     if broken not in all_broken:
-        raise NotKnown(f"{asks}; the file as it stands keeps it in row {broken.row}")
+        raise NotKnown(f"{asks}; the file keeps it in row {broken.row}")
     more = len(all_broken) - 1
     tail = (
         [f"{more} more {'rule is' if more == 1 else 'rules are'} broken there: `plan check` has them all"]
@@ -146,7 +150,7 @@ def by_table(words: dict[int, str]) -> Callable:
     def explained(source: Source, line: str, found: re.Match) -> list[str]:
         rule = int(found["rule"])
         if rule not in words:
-            raise NotKnown(f"there is no rule {rule}")
+            raise NotKnown(f"rule {rule} doesn't exist")
         return [f"rule {rule}: {words[rule]}"]
 
     return explained
@@ -159,7 +163,7 @@ LINES = (
     (r"trace: line \d+ breaks rule (?P<rule>\d+)", by_table(TRACE_RULES)),
     (r"overlap: rule (?P<rule>\d+) at row \d+", by_table(OVERLAP_RULES)),
     (r"read fault|write fault|out of memory", lambda _, line, __: [OTHERS[line]]),
-    (r"usage: .*", lambda *_: ["the words behind `arterial` are none of its commands: `./arterial --help` has them"]),
+    (r"usage: .*", lambda *_: ["unknown command or wrong arguments: `./arterial --help` lists all commands"]),
 )
 
 
@@ -174,4 +178,4 @@ def explained(source: Source, line: str) -> list[str]:
         found = re.fullmatch(pattern, line)
         if found:
             return words(source, line, found)
-    raise NotKnown(f"no line of the program: {line!r}")
+    raise NotKnown(f"not a line of the program: {line!r}")

@@ -33,7 +33,7 @@ def one_line(given: object) -> str:
     """Returns a name in one line, with one blank for all blanks and line ends between its words. A name with other
     characters that aren't shown, as an escape of a terminal, is refused."""
     if not isinstance(given, str):
-        raise Wrong(f"{given!r} is no text")
+        raise Wrong(f"expected a text, found {given!r}")
     found = " ".join(given.split())
     if not found.isprintable():
         raise Wrong(f"{given!r} has characters that can't be shown")
@@ -72,7 +72,7 @@ class Time:
     def read(self, given: object) -> int:
         """Returns the cell's value."""
         if not is_number(given):
-            raise Wrong(f"{given!r} is no number{number_hint(given)}")
+            raise Wrong(f"expected a number, found {given!r}{number_hint(given)}")
         scale = self.unit.value or 1
         found = round(given * scale)
         if not self.range.least <= found <= self.range.most:
@@ -113,7 +113,8 @@ class Word:
         for value, word in self.words.items():
             if given == word:
                 return value
-        raise Wrong(f"{given!r} is none of " + ", ".join(f'"{it}"' for it in self.words.values()))
+        known = ", ".join(f'"{it}"' for it in self.words.values())
+        raise Wrong(f"expected one of {known}, found {given!r}")
 
     def show(self, value: int) -> str:
         """Returns what a sheet says of the value."""
@@ -130,11 +131,11 @@ class Phases:
     def read(self, given: object) -> tuple:
         """Returns the cell's value."""
         if not isinstance(given, list) or any(isinstance(it, bool) or not isinstance(it, int) for it in given):
-            raise Wrong(f"{given!r} is no list of phases, as [2, 6]")
+            raise Wrong(f"expected a list of phases, as [2, 6], found {given!r}")
         if len(given) > self.range.longest:
-            raise Wrong(f"a list has at most {self.range.longest} phases, this one {len(given)}")
+            raise Wrong(f"expected at most {self.range.longest} phases, found {len(given)}")
         if any(not 0 <= it <= 255 for it in given):
-            raise Wrong(f"{given!r} has numbers that are no phases")
+            raise Wrong(f"{given!r} has numbers that aren't phases")
         return tuple(given)
 
     def show(self, value: tuple) -> list[int]:
@@ -211,7 +212,8 @@ def words_of(given: object, words: dict[int, str]) -> int:
     bits = {word: bit for bit, word in words.items()}
     for it in named:
         if not isinstance(it, str) or it not in bits:
-            raise Wrong(f"{it!r} is none of " + ", ".join(f'"{word}"' for word in ("none", *bits)))
+            known = ", ".join(f'"{word}"' for word in ("none", *bits))
+            raise Wrong(f"expected one of {known}, found {it!r}")
     return sum({bits[it] for it in named})
 
 

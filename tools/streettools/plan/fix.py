@@ -42,7 +42,7 @@ class Change:
         return (
             f"pattern {self.pattern} (split {self.split}) keeps the rules with "
             + ", ".join(parts)
-            + f": {total} s of change, the least there is"
+            + f": {total} s of change, the smallest that is enough"
         )
 
 
@@ -210,7 +210,7 @@ def least_change(tables: Tables, pattern: int, known: Intersection) -> Change:
     sides, totals = laid_out(laid, known.partners, length)
     if totals[-1][length] >= NEVER:
         enough = np.flatnonzero(laid_out(laid, known.partners, LONGEST)[1][-1] < NEVER)
-        words = f"it needs a cycle of {enough[0]} s at least" if enough.size else "no cycle up to 255 s is long enough"
+        words = f"it needs a cycle of at least {enough[0]} s" if enough.size else "no cycle up to 255 s is long enough"
         raise NoChange(f"pattern {pattern}: no splits keep the rules in a cycle of {length} s; {words}")
     after: dict[int, int] = {}
     for side, before in zip(reversed(sides), reversed(totals[:-1]), strict=True):

@@ -99,7 +99,7 @@ class Given:
                 words = [key]
             for word in words:
                 if word in table:
-                    found.fault("this number is said twice", word)
+                    found.fault("this number is a duplicate", word)
                 table[word] = value
         return Given(table, found.where, found.faults)
 
@@ -107,7 +107,7 @@ class Given:
         """Yields the tables of a list, as `[[schedule]]`, with their places from 1."""
         found = self.table.get(name, [])
         if not isinstance(found, list) or not all(isinstance(it, dict) for it in found):
-            self.fault("a list of tables is wanted here", name)
+            self.fault("expected a list of tables", name)
             found = []
         for number, it in enumerate(found, 1):
             yield number, Given(it, ", ".join(filter(None, (self.where, f"{name} {number}"))), self.faults)
@@ -116,7 +116,7 @@ class Given:
 def text(given: object) -> str:
     """Returns a text."""
     if not isinstance(given, str):
-        raise Wrong(f"{given!r} is no text")
+        raise Wrong(f"expected a text, found {given!r}")
     return given
 
 
@@ -127,9 +127,9 @@ def number(least: int, most: int) -> Callable[[object], int]:
         if isinstance(given, float) and given.is_integer():
             given = int(given)
         if isinstance(given, bool) or not isinstance(given, int):
-            raise Wrong(f"{given!r} is no whole number")
+            raise Wrong(f"expected a whole number, found {given!r}")
         if not least <= given <= most:
-            raise Wrong(f"{given} is not {least} to {most}")
+            raise Wrong(f"expected {least} to {most}, found {given}")
         return given
 
     return read
@@ -138,7 +138,7 @@ def number(least: int, most: int) -> Callable[[object], int]:
 def measure(given: object) -> float:
     """Returns a number that isn't below 0."""
     if not is_number(given) or given < 0:
-        raise Wrong(f"{given!r} is no number from 0 on{number_hint(given)}")
+        raise Wrong(f"expected a number from 0 up, found {given!r}{number_hint(given)}")
     return given
 
 
@@ -152,7 +152,7 @@ def travel(given: object) -> float:
 def percent(given: object) -> float:
     """Returns a grade in per cent."""
     if not is_number(given) or abs(given) > 30:
-        raise Wrong(f"{given!r} is no grade in per cent")
+        raise Wrong(f"expected a grade of -30 to 30 per cent, found {given!r}")
     return given
 
 
@@ -169,10 +169,10 @@ def day_ticks(given: object) -> int:
     if seconds is None:
         late = isinstance(given, str) and re.match(r"(2[4-9]|[3-9]\d):", given)
         hint = "; a day has 24 hours: half past midnight is 00:30:00" if late else ""
-        raise Wrong(f"{given!r} is no time of day, as 07:30:00{hint}")
+        raise Wrong(f"expected a time of day, as 07:30:00, found {given!r}{hint}")
     ticks = 10 * seconds
     if abs(ticks - round(ticks)) > 1e-6 or not 0 <= ticks < DAY_TICKS:
-        raise Wrong(f"{given!r} is no time of day in tenths of a second")
+        raise Wrong(f"expected a time of day in tenths of a second, found {given!r}")
     return round(ticks)
 
 
@@ -180,7 +180,7 @@ def day_seconds(given: object) -> int:
     """Returns a time of day in whole seconds."""
     ticks = day_ticks(given)
     if ticks % 10:
-        raise Wrong(f"{given!r} is no whole second")
+        raise Wrong(f"expected a whole second, found {given!r}")
     return ticks // 10
 
 
@@ -191,7 +191,7 @@ def command(given: object) -> int:
     """Returns a pattern in command: a number, "free" or "flash"."""
     if isinstance(given, str):
         if given not in COMMANDS:
-            raise Wrong(f'{given!r} is no pattern: a number, "free" or "flash"')
+            raise Wrong(f'expected a pattern (a number, "free" or "flash"), found {given!r}')
         return COMMANDS[given]
     return number(0, 255)(given)
 

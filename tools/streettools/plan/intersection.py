@@ -65,7 +65,7 @@ def read_rows(it: Given, found: Read) -> None:
     """Takes up all rows of the tables."""
     for number, row in it.each("phase", 16):
         if number in found.partners:
-            row.fault("this number is taken for the partner that the rings need: draw it, or say nothing of it")
+            row.fault("this number is used for the placeholder phase that the rings need: draw it, or leave it out")
         read_phase(row, number, found)
     fill_partners(found)
     used: dict[int, str] = {}

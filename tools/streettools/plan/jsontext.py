@@ -16,23 +16,23 @@ EXPECTED = {
     "or an object",
     "Expecting property name enclosed in double quotes": "a name in double quotes was expected",
     "Expecting ',' delimiter": "a comma was expected, or the end of the list or object",
-    "Expecting ':' delimiter": "a colon was expected behind the name",
-    "Extra data": "the text was expected to end here, for its value is over",
+    "Expecting ':' delimiter": "a colon was expected after the name",
+    "Extra data": "the text was expected to end here, after its value",
     "Unterminated string starting at": "a text begins here, and its closing quote was expected",
-    "Invalid control character at": "a text goes on over the end of its line, or holds a character that must be "
+    "Invalid control character at": "a text doesn't end in its line, or has a character that must be "
     "escaped",
     "Invalid \\escape": "an escape was expected, as \\n or \\u00e9",
     "Invalid \\uXXXX escape": "four hexadecimal digits were expected",
 }
 HINTS = (
     (re.compile(r","), re.compile(r"[\]}]"), "the comma before it is one too many"),
-    (re.compile(r""), re.compile(r"'"), "texts stand in double quotes"),
+    (re.compile(r""), re.compile(r"'"), "texts are in double quotes"),
     (re.compile(r""), re.compile(r"//|/\*|#"), "JSON has no comments"),
     (re.compile(r""), re.compile(r"[+.]"), "numbers begin with a digit or -"),
     (re.compile(r"[0-9]"), re.compile(r"[0-9]"), "numbers have no leading zeros"),
     (re.compile(r""), re.compile(r"NaN|Infinity|-Infinity"), "JSON has no such number"),
     (re.compile(r""), re.compile(r"True|False|None"), "JSON has true, false and null"),
-    (re.compile(r""), re.compile(r"[A-Za-z_]"), "texts and names stand in double quotes"),
+    (re.compile(r""), re.compile(r"[A-Za-z_]"), "texts and names are in double quotes"),
 )
 """What stands before and at a fault, and what that tells."""
 
@@ -73,9 +73,9 @@ def decoded(content: bytes, replaced: bool = False) -> str:
         text = content.decode()
     except UnicodeDecodeError as fault:
         front = content[: fault.start].decode()
-        raise NoJson(place_at(front, len(front)), f"the octet {content[fault.start]:02x} is no UTF-8") from None
+        raise NoJson(place_at(front, len(front)), f"the byte {content[fault.start]:02x} is not UTF-8") from None
     if text.startswith("\ufeff"):
-        raise NoJson(Place(1, 1), "a byte order mark stands before the text: save the file without it")
+        raise NoJson(Place(1, 1), "a byte order mark precedes the text: save the file without it")
     return text
 
 
@@ -96,7 +96,7 @@ def read(content: bytes) -> object:
         raise NoJson(place_at(text, fault.pos), expected(text, fault)) from None
     for found in LONE.finditer(text):
         if not text[: found.start()].endswith("\\") and not in_escape(text, found.start()):
-            raise NoJson(place_at(text, found.start()), "half a character: such an escape stands in pairs")
+            raise NoJson(place_at(text, found.start()), "half a character: such escapes come in pairs")
     refuse_infinite(text, value)
     return value
 
@@ -118,7 +118,7 @@ def expected(text: str, fault: json.JSONDecodeError) -> str:
     for before, at, hint in HINTS:
         if at.match(behind) and (not before.pattern or before.search(front[-1:])):
             return f"{words}: {hint}"
-    return f"{words}, not {behind.split()[0]!r}"
+    return f"{words}, found {behind.split()[0][:20]!r}"
 
 
 def refuse_constant(text: str, name: str) -> None:
@@ -133,7 +133,7 @@ def refuse_depth(text: str) -> None:
         mark = found[0]
         depth += (mark in "[{") - (mark in "]}")
         if depth > DEEPEST:
-            raise NoJson(place_at(text, found.start()), f"lists and objects stand more than {DEEPEST} deep")
+            raise NoJson(place_at(text, found.start()), f"lists and objects are nested more than {DEEPEST} deep")
 
 
 def refuse_infinite(text: str, value: object) -> None:
@@ -143,7 +143,7 @@ def refuse_infinite(text: str, value: object) -> None:
         it = waiting.pop()
         if isinstance(it, float) and math.isinf(it):
             great = re.search(r"-?\d+(?:\.\d+)?[eE]\+?\d{3,}|-?\d{300,}", text)
-            raise NoJson(place_at(text, great.start() if great else 0), "a number that is too great")
+            raise NoJson(place_at(text, great.start() if great else 0), "a number that is too large")
         waiting += it.values() if isinstance(it, dict) else it if isinstance(it, list) else ()
 
 

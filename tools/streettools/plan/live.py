@@ -59,8 +59,8 @@ class Agent:
                 return self.answer(time.monotonic() + SECONDS)
             except (TimeoutError, ConnectionRefusedError):
                 continue
-        more = f" ({self.strange} datagrams came that are no answers)" if self.strange else ""
-        raise self.refusal(f"no answer in {TRIES} tries{more}; is it the port, and the community?")
+        more = f" ({self.strange} datagrams were not answers)" if self.strange else ""
+        raise self.refusal(f"no answer in {TRIES} attempts{more}; check the port and the community")
 
     def answer(self, deadline: float) -> Reply:
         """Returns the answer to the question that was asked last; TimeoutError where it doesn't come in time."""

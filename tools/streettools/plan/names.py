@@ -129,15 +129,15 @@ def taken(found: Intersection) -> Intersection:
     phases = {number: replace(it, name=one_line(it.name)) for number, it in found.phases.items()}
     measures = [found.travel, *(value for it in phases.values() for value in lengths(it))]
     if not all(map(is_measure, measures)):
-        raise Wrong(f"intersection {found.name!r} has a measure that is no number")
+        raise Wrong(f"intersection {found.name!r} has a measure that isn't a number")
     if any(it.kind not in KINDS for it in phases.values()):
-        raise Wrong(f"intersection {found.name!r} has a phase whose kind is none of {', '.join(KINDS)}")
+        raise Wrong(f"intersection {found.name!r} has a phase whose kind isn't one of {', '.join(KINDS)}")
     if not isinstance(found.note, str):
-        raise Wrong(f"intersection {found.name!r} has a note that is no text")
+        raise Wrong(f"intersection {found.name!r} has a note that isn't a text")
     if not isinstance(found.partners, list) or not all(type(it) is int and 1 <= it <= 16 for it in found.partners):
-        raise Wrong(f"intersection {found.name!r} has partners that are no phases")
+        raise Wrong(f"intersection {found.name!r} has placeholder phases that aren't phases")
     if not is_card(found.conflicts):
-        raise Wrong(f"intersection {found.name!r} has conflicts that are no lists of phases")
+        raise Wrong(f"intersection {found.name!r} has conflicts that aren't lists of phases")
     preempts, detectors = (
         {number: one_line(it) for number, it in names.items()} for names in (found.preempts, found.detectors)
     )

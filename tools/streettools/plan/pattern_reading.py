@@ -58,7 +58,7 @@ def coordinated(said: object, found: Read) -> tuple[int, ...]:
     """Returns the coordinated phases; a partner is coordinated beside the phase that it faces."""
     pair = fields.Phases(5).read(said)
     if any(it not in ALL for it in pair):
-        raise Wrong(f"{said!r} has numbers that are no phases")
+        raise Wrong(f"{said!r} has numbers that aren't phases")
     return pair
 
 
@@ -107,11 +107,11 @@ def read_pattern(it: Given, number: int, found: Read, used: dict[int, str]) -> N
     if value(found.tables, ("pattern", number, 2)) == 0 and "splits" in it.table and said["split"] is None:
         doubt_cycle(it, number, found)
     elif split not in SPLITS:
-        it.fault("say the number of the split in which these times stand, 1 to 32", "split")
+        it.fault("the number of the split that has these times is missing, 1 to 32", "split")
     elif split in used:
         it.fault(
-            f"the times of split {split} stand with {used[split]} already: say them once, or give this pattern "
-            "another split",
+            f"the times of split {split} are already given with {used[split]}: give them once, or give this "
+            "pattern another split",
             "splits",
         )
     else:

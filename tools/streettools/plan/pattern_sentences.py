@@ -63,7 +63,7 @@ class PatternSentences(Sentences):
                 )
         one, other = by_ring[1][0], by_ring[2][0]
         if other not in self.listed(one):
-            return f"{head}, which may not be on together; they must stand on one side of the barrier"
+            return f"{head}, which may not be on together; they must be in one barrier group"
         omitted = next(it for it in pair if laid.is_omitted(it))
         return f"{head}, but its split mode leaves {self.phase(omitted)} out; a coordinated phase can't be omitted"
 
@@ -119,14 +119,14 @@ class PatternSentences(Sentences):
         best = max(far, key=lambda it: spare(laid, it), default=None)
         if best is not None and spare(laid, best) >= missing:
             return (
-                f", e.g. from phase {best}, which has {spare(laid, best)} s to spare (in both rings then, since it "
-                "stands on another side of the barrier)"
+                f", e.g. from phase {best}, which has {spare(laid, best)} s to spare (then in both rings, since it "
+                "is in another barrier group)"
             )
         if sum(spare(laid, it) for it in order if it != phase) >= missing:
-            return "; no single phase of its ring has so much to spare: --fix tells whether several have together"
+            return "; no single phase of its ring has that much to spare: --fix finds out whether several together have"
         return (
-            f"; its ring hasn't so much to spare: a longer cycle than {laid.cycle // 10} s is needed, or a shorter "
-            "service"
+            f"; its ring doesn't have that much to spare: it needs a longer cycle than {laid.cycle // 10} s, or a "
+            "shorter service"
         )
 
     def rule_19(self, row: int) -> str:

@@ -156,7 +156,7 @@ def write(tables: Tables, known: Intersection, called: str, pattern: int, path: 
         yticklabels=["ring 2", "ring 1"],
     )
     axes.set_xlabel(
-        "seconds; the thick line in a slot is the least service of its phase, red where the green is too short for it"
+        "seconds; the thick line in a slot is the minimum service of its phase, red where the green is too short for it"
     )
     figure.suptitle(title(tables, known, called, pattern), x=0.01, ha="left", fontsize=11, fontweight="bold", color=INK)
     figure.text(0.06, 1 - 3.4 / height, table_text(tables, known), va="top", family="monospace", fontsize=8, color=INK)

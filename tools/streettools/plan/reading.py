@@ -140,7 +140,7 @@ def plain(said: object) -> object:
     try:
         json.dumps(said, allow_nan=False)
     except (TypeError, ValueError):
-        raise Wrong("numbers, texts, true and false, lists and tables alone may stand here") from None
+        raise Wrong("expected numbers, texts, true, false, lists and tables only") from None
     return said
 
 
@@ -176,7 +176,7 @@ def read_sheet(sheet: dict[str, Any]) -> tuple[Street, list[given.Fault]]:
     found = read_names(top)
     rows = list(top.tables("intersection"))
     if not rows:
-        top.fault("a sheet has an [[intersection]] at least")
+        top.fault("a sheet needs at least one [[intersection]]")
     drifts = any("gain" in it.table or "lose" in it.table for _, it in rows)
     scenario = read_run(top.below("run"), drifts)
     street = Street(scenario, found)

@@ -72,20 +72,20 @@ class Sentences:
                 None,
                 (
                     own,
-                    f"{many(strange)}, which {'is no phase' if len(strange) == 1 else 'are no phases'}"
+                    f"{many(strange)}, which {'is not a phase' if len(strange) == 1 else 'are not phases'}"
                     if strange
                     else "",
                 ),
             )
         )
-        return f"{self.phase(row)} may be on beside {wrong}; its list is {many(self.listed(row))}: take that out"
+        return f"{self.phase(row)} may be on with {wrong}; its list is {many(self.listed(row))}: remove that"
 
     def rule_3(self, row: int) -> str:
         """Each phase of the list has this one in turn."""
         other = next(it for it in sorted(concurrent(self.tables, row)) if row not in self.listed(it))
         return (
-            f"{self.phase(row)} may be on beside {self.phase(other)}, but not the other way round: {other} lists "
-            f"{many(self.listed(other))}; put {row} into the list of {other}, or take {other} out of that of {row}"
+            f"{self.phase(row)} may be on with {self.phase(other)}, but not the other way round: {other} lists "
+            f"{many(self.listed(other))}; put {row} into the list of {other}, or remove {other} from that of {row}"
         )
 
     def rule_4(self, row: int) -> str:
@@ -93,16 +93,16 @@ class Sentences:
         other = next(it for it in sorted(concurrent(self.tables, row)) if self.ring(it) == self.ring(row))
         return (
             f"{self.phase(row)} and {self.phase(other)} are both in ring {self.ring(row)}, which shows one phase at a "
-            f"time, yet {row} lists {other} as one that may be on beside it; take it out, or put one of them into the "
+            f"time, yet {row} lists {other} as one that may be on with it; remove it, or put one of them into the "
             "other ring"
         )
 
     def rule_5(self, row: int) -> str:
         """Some phase of the list is enabled."""
         return (
-            f"no enabled phase may be on beside {self.phase(row)} (its list is {many(self.listed(row))}); each side "
-            "of the barrier needs a phase in both rings: draw `-` in the other ring, and a partner that nobody calls "
-            "is entered"
+            f"no enabled phase may be on with {self.phase(row)} (its list is {many(self.listed(row))}); each "
+            "barrier group needs a phase in both rings: draw `-` in the other ring, and a placeholder phase that "
+            "nothing calls is added"
         )
 
     def rule_6(self, row: int) -> str:
@@ -110,17 +110,17 @@ class Sentences:
         other = street_rules.partner_in_ring(self.tables, row)
         mine, theirs = (sorted(concurrent(self.tables, it)) for it in (row, other))
         return (
-            f"{self.phase(row)} may be on beside {many(mine)}, and {self.phase(other)} of the same ring beside "
-            f"{many(theirs)}; they share a phase, so they stand on one side of the barrier and must have the same "
-            "phases beside them"
+            f"{self.phase(row)} may be on with {many(mine)}, and {self.phase(other)} of the same ring with "
+            f"{many(theirs)}; they share a phase, so they are in one barrier group and must have the same "
+            "concurrent phases"
         )
 
     def rule_7(self, row: int) -> str:
         """There are two sides or more."""
         enabled = self.tables.enabled()
-        what = f"phases {many(enabled)} all stand on one side of the barrier" if enabled else "no phase is enabled"
+        what = f"phases {many(enabled)} are all in one barrier group" if enabled else "no phase is enabled"
         return (
-            f"{what}; there must be two sides or more, each with a phase in both rings, "
+            f"{what}; there must be at least two barrier groups, each with a phase in both rings, "
             'as in `rings = ["2 | 4", "6 | 8"]`'
         )
 
@@ -136,7 +136,7 @@ class Sentences:
             wrong = [
                 f"{many(missing)} {'is' if len(missing) == 1 else 'are'} missing" if missing else "",
                 f"{many(extra)} {'is' if len(extra) == 1 else 'are'} not enabled in this ring" if extra else "",
-                f"{many(twice)} {'stands' if len(twice) == 1 else 'stand'} there more than once" if twice else "",
+                f"{many(twice)} {'is' if len(twice) == 1 else 'are'} listed more than once" if twice else "",
             ]
             return (
                 f"sequence {row} has {' '.join(map(str, order)) or 'nothing'} in ring {ring}, whose enabled phases "
@@ -177,7 +177,7 @@ class Sentences:
         least = least_service(self.tables, other) + self.tables.clearance(other)
         return (
             f"{self.phase(row)} has a red revert of {seconds(value(self.tables, ('phase', row, 10)))}, but "
-            f"{self.phase(other)} may be over after {seconds(least)} ({service_words(self.tables, other)} + "
+            f"{self.phase(other)} may have ended after {seconds(least)} ({service_words(self.tables, other)} + "
             f"{clearance_words(self.tables, other)}); make the red revert that or less"
         )
 
@@ -188,7 +188,7 @@ class Sentences:
         return (
             f"{self.phase(row)} starts up {word}, and so {'does' if len(others) == 1 else 'do'} "
             f"{' and '.join(map(self.phase, others))}, which may "
-            'not be on beside it; let one of them start up "red"'
+            'not be on with it; let one of them start up "red"'
         )
 
     def rule_13(self, row: int) -> str:
@@ -235,8 +235,8 @@ class Sentences:
             what = f"moves {self.phase(row)} from ring {value(old, ('phase', row, 22))} to ring {self.ring(row)}"
         else:
             lists = [many(sorted(concurrent(tables, row))) for tables in (old, new)]
-            what = f"changes what may be on beside {self.phase(row)}: {lists[0]} before, {lists[1]} now"
-        return f"the download {what}; a cabinet takes that in flash alone: command flash first (pattern 255)"
+            what = f"changes what may be on with {self.phase(row)}: {lists[0]} before, {lists[1]} now"
+        return f"the download {what}; a cabinet accepts that only in flash: command flash first (pattern 255)"
 
     def rule_22(self, row: int) -> str:
         """Where walk is 0, so is the pedestrian clearance."""

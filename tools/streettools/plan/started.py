@@ -27,7 +27,8 @@ def word_of(*words: str):
 
     def read(it: object) -> str:
         if it not in words:
-            raise Wrong(f"{it!r} is none of " + ", ".join(f'"{word}"' for word in words))
+            known = ", ".join(f'"{word}"' for word in words)
+            raise Wrong(f"expected one of {known}, found {it!r}")
         return it
 
     return read
@@ -52,7 +53,7 @@ def started(it: Given) -> Read:
             crossing_alone(found.tables, number)
     for partner, like in found.partners.items():
         found.notes.append(
-            f"phase {partner} is entered beside phase {like}: the rings need a partner there; nothing calls it"
+            f"phase {partner} is added next to phase {like}: the rings need a placeholder phase there; nothing calls it"
         )
     found.names.partners = sorted(found.partners)
     return found

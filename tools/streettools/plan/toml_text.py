@@ -11,7 +11,7 @@ from ..shared.given import plain
 from . import toml_hints
 from .given import Fault, Unreadable
 
-HEAD = "# A timing sheet, in seconds. What isn't said is that of the standard table; docs/PLANS.md has all names.\n"
+HEAD = "# A timing sheet, in seconds. Omitted values come from the standard table; docs/PLANS.md has all names.\n"
 ROWS = ("phase", "detector", "sequence")
 """Tables of an intersection with a line for each row."""
 

@@ -45,7 +45,7 @@ def rings(node: Node) -> list[str]:
         barrier, ring, position = brp // 100, brp // 10 % 10, brp % 10
         if ring not in (1, 2) or not barrier:
             node.note(
-                f"phase {phase} is left out: barrier, ring and position are {brp}, and there are rings 1 and 2 alone"
+                f"phase {phase} is left out: barrier, ring and position are {brp}, and only rings 1 and 2 exist"
             )
         else:
             places.setdefault((barrier, ring), []).append((position, phase))
@@ -114,7 +114,7 @@ def phase_row(node: Node, phase: int) -> dict[str, Any]:
             row[name] = round(value, 1)
             if abs(row[name] - value) > 1e-9:
                 node.note(
-                    f"{record} of phase {phase}, {value:g} s, is taken as {row[name]:g} s: a cabinet holds tenths"
+                    f"{record} of phase {phase}, {value:g} s, is rounded to {row[name]:g} s: a cabinet stores tenths"
                 )
     row.setdefault("walk", 0)
     row.setdefault("ped_clear", 0)

@@ -52,11 +52,11 @@ def offset(node: Node, drawn: list[str], splits: dict[int, int], pair: list[int]
         4: min(behind(clear[it] + (node.at("DontWalk", it) or 0), it) for it in pair),
     }  # fmt: skip
     if point not in points:
-        node.note(f"the offset refers to point {point}, which is not known; it is taken as the begin of green")
+        node.note(f"the offset refers to point {point}, which is unknown; the begin of green is used")
     exact = (given + zero - points.get(point, zero)) % cycle
     if abs(exact - round(exact)) > 1e-9:
         node.note(
-            f"the offset comes to {exact:g} s, and is taken as {round(exact)} s: a cabinet holds whole seconds here"
+            f"the offset, {exact:g} s, is rounded to {round(exact)} s: a cabinet stores whole seconds"
         )
     return round(exact) % cycle
 
@@ -74,8 +74,8 @@ def pattern(node: Node, drawn: list[str]) -> dict[str, Any] | None:
         splits[phase] = round(total)
         if abs(total - splits[phase]) > 1e-9:
             node.note(
-                f"the split of phase {phase}, {total:g} s, is taken as {splits[phase]} s: a cabinet holds whole "
-                "seconds here"
+                f"the split of phase {phase}, {total:g} s, is rounded to {splits[phase]} s: a cabinet stores whole "
+                "seconds"
             )
     found = {
         "cycle": node.whole(cycle, "the cycle", "pattern 1"),

@@ -212,7 +212,7 @@ def bank_of(walked: Walked, cabinet: int, notes: list[str]) -> list[dict]:
             times[name] = -int(-seconds // 1)
             if abs(times[name] - seconds) > 1e-9:
                 notes.append(
-                    f"detector {number}: {name} of {seconds:g} s is taken as {times[name]} s, a whole number of rounds"
+                    f"detector {number}: {name} of {seconds:g} s is rounded to {times[name]} s, whole rounds"
                 )
         bank.append(
             {

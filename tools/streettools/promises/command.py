@@ -26,7 +26,7 @@ EXAMPLES = """examples:
   edits/promises --write --quiet        record it without showing it
   edits/promises --list                 the places of all statements, with their lines
 
-Exit status: 0 where nothing changed or all is recorded, 1 where something changed, 2 where the words are not valid."""
+Exit status: 0 nothing changed or all is recorded, 1 something changed, 2 invalid arguments."""
 
 NEAR = 2
 """How many equal lines are shown around lines that differ."""

@@ -1,5 +1,6 @@
-"""docs/DEFINITIONS.md: the definitions that the contract of `station` reaches, by area, with comments and signatures."""
+"""docs/DEFINITIONS.md: the definitions that the contract of `station` reaches, by area, with their comments."""
 
+import functools
 import pathlib
 import re
 import textwrap
@@ -120,6 +121,7 @@ def read(place: str, text: str) -> File:
     return File(place, remark(lines[:start]), entries)
 
 
+@functools.cache
 def files(top: pathlib.Path) -> dict[str, File]:
     """Returns the files of definitions that the contract reaches, by `crate/File`."""
     found = {}
@@ -140,7 +142,8 @@ def areas(known: dict[str, File]) -> Iterator[tuple[str, str, list[File]]]:
     for area in listed:
         chosen: list[str] = []
         for it in area["files"]:
-            more = [it] if "/" in it else [name for name in known if name.startswith(f"{it}/") and name not in named_ones]
+            whole = (name for name in known if name.startswith(f"{it}/") and name not in named_ones)
+            more = [it] if "/" in it else [*whole]
             if not more or not left.issuperset(more):
                 raise Unlisted(f"{AREAS.name}: {it} isn't reached, or is listed twice")
             left -= {*more}

@@ -37,7 +37,8 @@ def escaped(text: str) -> str:
 
 def wrapped(text: str) -> str:
     """Returns a paragraph in lines."""
-    return textwrap.fill(escaped(" ".join(text.split())), COLUMNS, break_long_words=False, break_on_hyphens=False) + "\n"
+    plain = escaped(" ".join(text.split()))
+    return textwrap.fill(plain, COLUMNS, break_long_words=False, break_on_hyphens=False) + "\n"
 
 
 def prose(text: str) -> Iterator[str]:

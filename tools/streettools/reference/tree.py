@@ -105,8 +105,8 @@ def command_of(parser: argparse.ArgumentParser) -> Command:
     listed = sorted(shown, key=lambda it: short_help.order(parser, it))
     options = tuple(option_of(parser, it) for it in listed if it not in below)
     parts = tuple(command_of(part) for it in below for part in it.choices.values())
-    usage = short_help.usage(parser).removeprefix("usage: ")
-    return Command(parser.prog, usage, (parser.description or "").strip(), options, (parser.epilog or "").strip("\n"), parts)
+    usage, more = short_help.usage(parser).removeprefix("usage: "), (parser.epilog or "").strip("\n")
+    return Command(parser.prog, usage, (parser.description or "").strip(), options, more, parts)
 
 
 def tool(name: str) -> Command:

@@ -78,7 +78,7 @@ def content_of(field: Field, tag: int) -> bytes:
 def number_of(content: bytes) -> int:
     """Returns the number of an INTEGER's content: 1 to 4 octets, the fewest."""
     if not 1 <= len(content) <= INTEGER_OCTETS:
-        raise Malformed("an INTEGER of no octet, or of more than 32 bits")
+        raise Malformed("an INTEGER without octets, or of more than 32 bits")
     value = int.from_bytes(content, "big", signed=True)
     if len(content) > 1 and len(content) > octets_for(value):
         raise Malformed("an INTEGER has more octets than it needs")

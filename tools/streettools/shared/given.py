@@ -43,7 +43,7 @@ def refuse_strange(document: dict[str, Any]) -> None:
         if depth > DEEPEST:
             raise ValueError(f"lists and tables are nested more than {DEEPEST} deep")
         if isinstance(value, float) and not math.isfinite(value):
-            raise ValueError(f"{value} is no number that may be used")
+            raise ValueError(f"{value} is not allowed as a number")
         if isinstance(value, int) and not -(2**63) <= value < 2**63:
             raise ValueError("a whole number takes more than 64 bits")
         if isinstance(value, (dict, list)):
@@ -56,7 +56,7 @@ def toml_of(content: bytes, name: object) -> dict[str, Any]:
     try:
         return plain(content.decode().replace("\r\n", "\n"))
     except ValueError as fault:
-        raise Fault(f"{name}: no TOML: {fault}") from None
+        raise Fault(f"{name}: not valid TOML: {fault}") from None
 
 
 def read_toml(path: pathlib.Path) -> "Given":
@@ -166,4 +166,4 @@ class Given:
         for name in self.table:
             if name not in self.known:
                 near = next(iter(difflib.get_close_matches(name, self.known, 1)), None)
-                raise self.refuse(name, "is unknown" + (f": is {near} meant?" if near else ""))
+                raise self.refuse(name, "is unknown" + (f"; did you mean {near}?" if near else ""))

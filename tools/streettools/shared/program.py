@@ -113,7 +113,7 @@ def usual() -> str:
 
     path = shutil.which("arterial")
     if path is None:
-        raise NoProgram("there is no program arterial on the path")
+        raise NoProgram("no program arterial is on the path")
     return path
 
 

@@ -13,7 +13,7 @@ class NotATrace(Fault):
     """A line that isn't one of a trace, or not at this place; `line` is its number, from 1."""
 
     def __init__(self, line: int) -> None:
-        super().__init__(f"line {line} is no line of a trace")
+        super().__init__(f"line {line} is not a line of a trace")
         self.line = line
 
 

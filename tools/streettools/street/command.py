@@ -22,7 +22,7 @@ from .record import Recorder, read_requests
 from .replay import Replay
 from .street import Hearer, Street
 
-OPEN = "warning: whoever reaches {} can read and change these cabinets: the protocol has no protection"
+OPEN = "warning: anyone who reaches {} can read and change these cabinets: the protocol has no protection"
 USUAL = {"version": 1, "rounds": 1, "ticks": 10, "cabinets": [{}]}
 """Where no scenario is named: the standard tables, rounds of a second."""
 
@@ -41,7 +41,7 @@ class Telling(Hearer):
     def began(self, scenario: dict[str, Any]) -> None:
         self.sessions += 1
         if self.sessions > 1:
-            say("the session is over; a new one begins with start-up")
+            say("the session ended; a new one begins with start-up")
 
 
 def scenario_of(program: pathlib.Path, text: bytes) -> dict[str, Any]:

@@ -12,7 +12,7 @@ def sure(count: int, yes: bool) -> None:
     if count <= MANY or yes:
         return
     if not (sys.stdin and sys.stdin.isatty()):
-        raise Fault(f"the study makes {count:,} runs: --yes makes more than {MANY:,}")
-    print(f"sweep: the study makes {count:,} runs. Go on? [y/N] ", end="", file=sys.stderr, flush=True)
+        raise Fault(f"the study makes {count:,} runs: --yes allows more than {MANY:,}")
+    print(f"sweep: the study makes {count:,} runs. Continue? [y/N] ", end="", file=sys.stderr, flush=True)
     if sys.stdin.readline().strip().lower() not in ("y", "yes"):
         raise Fault("nothing was run")

@@ -139,5 +139,5 @@ def parsed(text: bytes, name: str) -> dict[str, Any]:
             raise ValueError
         scenario["rounds"] * scenario["ticks"] * 1
     except (ValueError, KeyError, TypeError, RecursionError):
-        raise Fault(f"{name} is no scenario (./arterial run tells why)") from None
+        raise Fault(f"{name} is not a valid scenario (./arterial run shows why)") from None
     return scenario

@@ -50,7 +50,9 @@ def column_of(words: Any) -> Column:
     """Reads what a study asks for."""
     found = FORM.fullmatch(words) if isinstance(words, str) else None
     if not found:
-        raise Fault(f"study: measures: {words!r} is none; one is wait_mean cabinet 2 phase 4, or services each phase")
+        raise Fault(
+            f"study: unknown measure {words!r}; e.g. wait_mean cabinet 2 phase 4; list: ./arterial sweep measures"
+        )
     name, cabinet, phase, each = found.groups()
     measure = measures.ALL.get(name)
     if measure is None:

@@ -45,7 +45,7 @@ class Papers:
         """Returns what Dask makes of them."""
         for file in (self.authority, self.certificate, self.key):
             if not file.is_file():
-                raise Fault(f"{file}: there is no such file", Status.FILE)
+                raise Fault(f"{file}: no such file", Status.FILE)
         return distributed().Security(
             require_encryption=True,
             tls_ca_file=str(self.authority),
@@ -108,7 +108,7 @@ class Dask(Crew):
 
     def gone(self) -> Fault:
         """Returns what is said if the scheduler answers no more."""
-        words = f"the scheduler at {self.address} is gone; what was done is kept, and --resume goes on"
+        words = f"the scheduler at {self.address} is gone; finished runs are kept, and --resume continues"
         return Fault(words, Status.FILE)
 
     def end(self, tickets: list[Any]) -> None:

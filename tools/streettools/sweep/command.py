@@ -110,7 +110,7 @@ def sweep_over(words: argparse.Namespace) -> int:
     asking.sure(sweep.ready.variants.count(), words.yes)
     path = out.with_name(f"{out.name}.runs")
     if path.exists() and not (words.resume or words.anew):
-        raise Fault(f"{path} is there from an earlier sweep: --resume goes on with it, --anew throws it away")
+        raise Fault(f"{path} already exists from an earlier sweep: use --resume to continue or --anew to discard it")
     begun = time.monotonic()
     with Journal(path, words.anew) as journal:
         try:
@@ -119,7 +119,7 @@ def sweep_over(words: argparse.Namespace) -> int:
             say(
                 "sweep",
                 f"interrupted: {sweep.done(journal):,} of {sweep.ready.variants.count():,} runs are kept in {path}; "
-                "--resume goes on",
+                "--resume continues",
             )
             return Status.INTERRUPTED
         outcomes: Counter[str] = Counter()
@@ -193,8 +193,8 @@ def check(words: argparse.Namespace) -> None:
     if words.scheduler and (words.slurm or words.workers or words.memory):
         raise Fault("--scheduler goes without --slurm, --workers and --memory: the cluster has its own workers")
     if words.scheduler and not words.scheduler.startswith("tls://"):
-        raise Fault(f"--scheduler {words.scheduler}: only tls://HOST:PORT is taken; anybody who reaches another one "
-                    "runs code as you")  # fmt: skip
+        raise Fault(f"--scheduler {words.scheduler}: expected tls://HOST:PORT; anyone who reaches an unencrypted "
+                    "scheduler runs code as you")  # fmt: skip
     if bool(words.scheduler) != all(papers) or not words.scheduler and any(papers):
         raise Fault("--scheduler goes with --tls-ca, --tls-cert and --tls-key, the files of the cluster's certificates")
     if words.slurm != bool(words.interface):

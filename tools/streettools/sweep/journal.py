@@ -36,7 +36,7 @@ class Journal:
             self.file.truncate(0)
         end, line = 0, self.file.readline()
         if line and line != HEAD:
-            raise Fault(f"{self.path}: this is no file of a sweep")
+            raise Fault(f"{self.path}: not a journal of a sweep")
         while line.endswith(b"\n"):
             self.note(line, end)
             end += len(line)
@@ -55,7 +55,7 @@ class Journal:
             if "key" in value and value["row"][0] != Outcome.FAILED:
                 self.places[value["key"]] = place
         except (ValueError, KeyError, IndexError, TypeError):
-            raise Fault(f"{self.path}: this is no file of a sweep (byte {place})") from None
+            raise Fault(f"{self.path}: not a journal of a sweep, or damaged at byte {place}") from None
 
     def __contains__(self, key: str) -> bool:
         return key in self.places
@@ -75,7 +75,7 @@ class Journal:
             os.ftruncate(self.file.fileno(), place)
             self.end = place
             raise Fault(
-                f"{self.path}: {fault.strerror}; the runs before it are kept, and --resume goes on", Status.FILE
+                f"{self.path}: {fault.strerror}; earlier runs are kept, and --resume continues", Status.FILE
             ) from None
         for key, line in lines:
             self.places[key] = place

@@ -208,7 +208,7 @@ class Runner:
         try:
             self.follow(trace, tallies)
         except (ValueError, KeyError, NotATrace):
-            raise Failed("the program wrote a line that is none of a trace") from None
+            raise Failed("the program wrote a line that isn't one of a trace") from None
         cabinets = {number: it.close(last) for number, it in tallies.items()}
         seen = street.close(last) if street else StreetCounts()
         if self.planned and built.street:

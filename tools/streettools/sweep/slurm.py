@@ -33,7 +33,7 @@ def waited(job: str, file: Path) -> None:
         state = asked(["squeue", "--noheader", "--states=all", "--format=%T", f"--jobs={job}"])
         if state in STATES_OF_THE_END or not state:
             raise Fault(
-                f"Slurm's job {job} ended before the scheduler was there ({state or 'gone'}): its output stands in "
+                f"Slurm's job {job} ended before the scheduler was there ({state or 'gone'}): its output is in "
                 f"{file.parent}",
                 Status.FILE,
             )
@@ -66,7 +66,7 @@ def started(workers: int, interface: str, template: str | None) -> Iterator[clus
     """Gives a cluster that Slurm runs, at a network interface of its nodes. Its scheduler says its address by a file in
     a folder made for the run, which all nodes have to share, and which has the certificate of the cluster too."""
     if shutil.which("sbatch") is None:
-        raise Fault("there is no sbatch here: --slurm needs Slurm's commands", Status.FILE)
+        raise Fault("sbatch is missing: --slurm needs Slurm's commands", Status.FILE)
     try:
         text = Path(template or TEMPLATE).read_text(encoding="utf-8")
     except OSError as fault:

@@ -155,7 +155,7 @@ def tables_of(given: Given, fetch: Fetch) -> dict[str, dict[str, Any]]:
     if "volumes" in found:
         queued.check_volumes(given.below("volumes"), fetch)
         if found.get("traffic", {}).get("flow"):
-            raise Fault("study: traffic.flow and volumes don't go together: each tells what the detectors see")
+            raise Fault("study: traffic.flow and volumes exclude each other: each defines what the detectors see")
     return found
 
 
@@ -188,13 +188,13 @@ def check(study: Study) -> None:
     if twice:
         raise Fault(f"study: two columns of the table would be called {twice}")
     if study.samples > 1 and not study.is_drawn():
-        raise Fault("study: samples goes with a parameter that is random, and there is none")
+        raise Fault("study: samples needs a random parameter")
     drawing = "flow" in study.tables.get("traffic", {}) or {"line", "volumes"} & set(study.tables)
     if study.seeds and not (drawing or study.base.kind is BaseKind.GENERATE):
-        raise Fault("study: seeds go with traffic.flow, volumes, line, or generate: nothing here is drawn")
+        raise Fault("study: seeds need traffic.flow, volumes, line, or generate: nothing here is random")
     if "street" not in study.tables and (needs := choice.needing(study.columns, Scope.STREET)):
-        raise Fault(f"study: {needs} needs the table street, which tells the times of travel")
+        raise Fault(f"study: {needs} needs the table street, which has the travel times")
     if "volumes" not in study.tables and (needs := choice.needing(study.columns, Scope.TRAFFIC)):
-        raise Fault(f"study: {needs} needs the table volumes, which tells who comes")
+        raise Fault(f"study: {needs} needs the table volumes, which has the traffic")
     if not study.columns and not study.own:
         raise Fault("study: measures is missing (./arterial sweep measures lists them)")

@@ -128,5 +128,5 @@ def put_of(given: Given) -> Put:
         return Put(None, cell_of(given), cabinets_of(given), times, plus)
     path = given.need("path", str)
     if not PATH.fullmatch(path):
-        raise given.refuse("path", f"is no path: {path!r}; one is cabinets[0].clock")
+        raise given.refuse("path", f"is not a path: {path!r}; e.g. cabinets[0].clock")
     return Put(path, None, None, times, plus)

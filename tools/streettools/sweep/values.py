@@ -88,9 +88,9 @@ def steps_of(given: Given) -> Steps:
     found = Steps(first, last, given.take("step", NUMBER, 1))
     given.end()
     if found.step <= 0 or last < first:
-        raise given.refuse("to", "has to be no less than from, and step more than 0")
+        raise given.refuse("to", "has to be at least from, and step more than 0")
     if not (last - first) / found.step < MOST:
-        raise given.refuse("to", f"makes too many values: at most {MOST:,} may stand here")
+        raise given.refuse("to", f"makes too many values: at most {MOST:,} are allowed")
     return found
 
 
@@ -98,7 +98,7 @@ def values_of(given: Given, name: str, kind: Kind, options: tuple[Option, ...]) 
     """Reads the values of a parameter, whose kind is known."""
     if kind is Kind.OPTION:
         if not options:
-            raise given.refuse("option", "has to have one option at least")
+            raise given.refuse("option", "needs at least one option")
         return Values(kind, name, options=options)
     if kind is Kind.VALUES:
         listed = given.need("values", list)

@@ -71,7 +71,7 @@ def test_a_text_that_ends_and_one_that_goes_on():
 def test_a_last_line_without_its_newline_lacks_that():
     number = MIXED.count(b"\n")
     read, shown = due.told(NONE, MIXED[:-1], f"trace: line {number} breaks rule 2")
-    assert (read, shown) == ("read  Z 6", "due   Z 6   (with a newline behind it)")
+    assert (read, shown) == ("read  Z 6", "due   Z 6   (with a newline after it)")
 
 
 def test_bytes_that_are_no_line_are_shown_as_they_are():
@@ -139,7 +139,7 @@ def test_without_proofs_check_shows_both_lines_too(tried, damaged):
 
 def test_where_the_model_is_not_there_the_line_due_is_not_told(proved, damaged):
     said = proved.ran("check", damaged[0], **ANSWER)[2]
-    assert said.endswith("due   not told: the model, which tells it where journals have this order, isn't here\n")
+    assert said.endswith("due   unknown: the model, which gives it for this order of journals, isn't here\n")
 
 
 def test_of_a_pipe_the_way_to_both_lines_is_told(proved):

@@ -79,7 +79,7 @@ def test_interrupted_it_goes_on_where_it_was(tried, words):
     interrupt(running)
     status, written, said = ended(running)
     assert (status, written) == (130, "")
-    assert said.endswith("arterial: interrupted: the crates that are done are kept, and ./arterial prove goes on\n")
+    assert said.endswith("arterial: interrupted: finished crates are kept, and ./arterial prove continues\n")
     assert not (tried.program.parent / "lanes").exists()
     before = len(list(kept[0].glob(kept[1])))
     assert 1 <= before < 4

@@ -39,8 +39,8 @@ def test_a_text_that_is_a_trace_is_said_to_be_one(stand_in, tmp_path):
 def test_a_text_that_is_no_trace_is_refused_and_shown_without_the_check(stand_in, tmp_path):
     env = stand_in(5, "trace: line 10 breaks rule 6")
     ran = run("rings", "-o", tmp_path / "x.svg", given=SMALL, env=env)
-    words = "look: checked: standard input is no trace (trace: line 10 breaks rule 6); "
-    words += "--no-check shows it as far as its lines go\n"
+    words = "look: checked: standard input is not a trace (trace: line 10 breaks rule 6); "
+    words += "--no-check shows it as far as it can be read\n"
     assert (ran.returncode, ran.stderr, (tmp_path / "x.svg").exists()) == (2, words, False)
     ran = run("report", "--json", "--no-check", given=SMALL, env=env)
     assert (ran.returncode, ran.stderr) == (0, "")
@@ -65,7 +65,7 @@ def test_nothing_is_printed_before_the_answer_of_a_slow_check(tmp_path):
 
 def test_a_text_that_cannot_be_read_is_refused_by_the_check_first(stand_in):
     ran = run("report", given=SMALL.replace("R 3", "R 4"), env=stand_in(5, "trace: line 8 breaks rule 2"))
-    assert ran.returncode == 2 and ran.stderr.startswith("look: checked: standard input is no trace (trace: line 8 ")
+    assert ran.returncode == 2 and ran.stderr.startswith("look: checked: standard input is not a trace (trace: line 8 ")
     ran = run("rings", "--cabinet", "2", "-o", "x.svg", given=SMALL, env=stand_in(0))
     words = ["look: checked: standard input is a trace", "look: the trace has no cabinet 2"]
     assert (ran.returncode, ran.stderr.splitlines()) == (2, words)

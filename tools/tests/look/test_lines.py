@@ -115,7 +115,7 @@ def test_a_fault_is_told_and_writes_nothing_over_a_picture(tmp_path):
     for text, line in ((SMALL.replace("F 1 160 R", "F 1 160 B"), 10), (SMALL.replace("Z 7\n", ""), 24)):
         answer = run("rings", "-o", picture, given=text)
         assert (answer.returncode, answer.stdout) == (2, "")
-        assert answer.stderr.startswith(f"look: line {line} is no line of a trace")
+        assert answer.stderr.startswith(f"look: line {line} is not a line of a trace")
         answer = run("events", "--start", "2026-11-27T06:00:00", "-o", picture, given=text)
         assert answer.returncode == 2
         assert [it.name for it in tmp_path.iterdir()] == ["rings.svg"] and picture.read_text() == "as it was"

@@ -24,7 +24,7 @@ inputs = [{round = 2, cabinet = 1, veh = 4, on = true}, {round = 5, cabinet = 1,
 """
 """A T-intersection: no street faces Mill Road, so phase 8 is entered as its partner."""
 
-LEFT_OUT = "left out: phase 8, a partner that the rings alone need"
+LEFT_OUT = "left out: phase 8, a placeholder phase that only the rings need"
 
 COORDINATED = """\
 title = "Main Street"
@@ -124,7 +124,7 @@ def test_a_partner_that_is_coordinated_is_left_out(planned, drawn, look, capsys)
     found = drawn("coordination", "--travel", "10", "--names", names, given=trace)
     assert [found.groups[f"cabinet-2-{way}-green"] for way in ("outbound", "inbound")] == [1, 1]
     assert found.texts["Main St & $1 Alley"] == 1 and found.texts["phases 2, 6"] == 1 and found.texts["phase 2"] == 1
-    assert found.texts["cabinet 2 left out: phases 6 and 8, partners that the rings alone need"] == 1
+    assert found.texts["cabinet 2 left out: phases 6 and 8, placeholder phases that only the rings need"] == 1
     found = drawn("offset", "--cabinet", "2", "--names", names, given=trace)
     assert found.texts["Main St & $1 Alley (cabinet 2): the offset, ticks 0 to 2400"] == 1
 
@@ -136,7 +136,7 @@ def test_the_event_log_has_no_row_of_a_partner(planned, capsys):
     ran = run(*words, "--names", names, given=trace)
     gone = {",".join(line.split(",")[1:]) for line in set(whole) - set(ran.stdout.splitlines())}
     assert gone == {"2,0,6", "2,1,6", "2,139,50", "2,141,40"}
-    words = "look: Main St & $1 Alley (cabinet 2): left out: phases 6 and 8, partners that the rings alone need\n"
+    words = "look: Main St & $1 Alley (cabinet 2): left out: phases 6 and 8, placeholder phases that only the rings need\n"
     assert (ran.returncode, ran.stderr) == (0, words)
 
 
@@ -144,7 +144,7 @@ def test_names_that_are_no_names_are_told(tmp_path):
     """No JSON, a partner that is no phase, more intersections than cabinets, no file."""
     file = tmp_path / "x.names.json"
     faults = [("[1]", "no names file"), ("{", "no names file"), ("\0\xff", "no names file"),
-              ('{"intersections":[{"partners":["8"]}]}', "partners that are no phases"),
+              ('{"intersections":[{"partners":["8"]}]}', "placeholder phases that aren't phases"),
               ('{"intersections":[{},{}]}', "it names 2 intersections, and the trace has 1 cabinets")]  # fmt: skip
     for text, words in faults:
         file.write_text(text)

@@ -88,7 +88,7 @@ def test_a_street_on_its_offsets_has_the_bands_of_its_plan(drawn, bands):
     [
         (["outbound 0 245 1 1"], "not the two lines that `arterial band` writes"),
         (["outbound 0 245 1 1", "inbound none", ""], "not the two lines that `arterial band` writes"),
-        (["outbound 0 900 1 1", "inbound none"], "a band of 90 s from 0 s on is none of a cycle of 90 s"),
+        (["outbound 0 900 1 1", "inbound none"], "a band of 90 s from 0 s on doesn't fit a cycle of 90 s"),
     ],
 )
 def test_other_bands_are_refused(bands, tmp_path, lines, words):

@@ -16,7 +16,7 @@ def test_a_sheet_goes_to_a_scenario_and_back_with_its_names(tmp_path):
     """The scenario and the names are written; from these two comes the same scenario again."""
     out = tmp_path / "street.json"
     ran = plan("scenario", SHEET, "-o", out)
-    assert ran.returncode == 0 and b"phase 8 is entered beside phase 4" in ran.stderr
+    assert ran.returncode == 0 and b"phase 8 is added next to phase 4" in ran.stderr
     assert json.loads((tmp_path / "street.names.json").read_text())["intersections"][1]["partners"] == [8]
     back = plan("sheet", out)
     assert (
@@ -46,7 +46,7 @@ def test_a_check_tells_errors_and_ends_with_status_2(tmp_path):
     found = json.loads(plan("check", "--json", path).stdout)
     assert found[0]["rule"] == 17 and found[0]["line"] == "scenario: cabinet 1 breaks rule 17 at row 1"
     ran = plan("check", "--fix", path, "-o", tmp_path / "mended.toml")
-    assert ran.returncode == 2 and b"20 s of change, the least there is" in ran.stdout
+    assert ran.returncode == 2 and b"20 s of change, the smallest that is enough" in ran.stdout
     assert plan("check", tmp_path / "mended.toml").returncode == 0
 
 
@@ -168,11 +168,11 @@ def test_a_split_of_several_phases_is_said_once_and_mended_in_its_place(tmp_path
     path.write_text(WITH_COMMENTS.split("splits = ")[0] + line + "\n")
     ran = plan("check", "--fix", path, "-o", aim)
     # both rings come to 95 s in a cycle of 90: 5 s less in each
-    assert ran.returncode == 2 and b"10 s of change, the least there is" in ran.stdout and ran.stderr == b""
+    assert ran.returncode == 2 and b"10 s of change, the smallest that is enough" in ran.stdout and ran.stderr == b""
     assert aim.read_text().startswith("# Kept by the city") and plan("check", aim).returncode == 0
     path.write_text(path.read_text().replace('"3 7" = 15', '"3 7" = 15, 3 = 14'))
     ran = plan("check", path)
-    assert ran.returncode == 2 and b"splits, 3: error: this number is said twice" in ran.stdout
+    assert ran.returncode == 2 and b"splits, 3: error: this number is a duplicate" in ran.stdout
 
 
 @pytest.mark.parametrize("text", ["clock = 08:50\n", "schedule = [\n  {at = 7:00, pattern = 1},\n]\n"])

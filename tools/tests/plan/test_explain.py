@@ -23,7 +23,7 @@ def test_a_refusal_by_a_rule_is_explained(tmp_path):
         {**SCENARIO, "cabinets": [{}, {"cells": [["pattern", 1, 2, 80]]}]},
         "scenario: cabinet 2 breaks rule 17 at row 1",
     )
-    assert "rule 17 asks: the splits of each ring come to the cycle" in words
+    assert "rule 17 requires: the splits of each ring total the cycle" in words
     assert (
         "cabinet 2: pattern 1 (split 1): the splits of ring 1" in words
         and "but the cycle is 80 s; take 10 s off" in words
@@ -33,7 +33,7 @@ def test_a_refusal_by_a_rule_is_explained(tmp_path):
 def test_a_refusal_of_a_value_is_explained_with_its_place(tmp_path):
     """The line and the column of the number, and what may stand there."""
     words = explained(tmp_path, '{"version":1,"rounds":10,\n"ticks":601,"cabinets":[{}]}', "scenario: limit ticks")
-    assert words == "line 2, column 9, ticks: error: 601 is not 1 to 600"
+    assert words == "line 2, column 9, ticks: error: expected 1 to 600, found 601"
     words = explained(tmp_path, '{"version":1,"rounds":10,,\n"ticks":601}', "scenario: not JSON")
     assert "line 1, column 26" in words
 
@@ -51,10 +51,10 @@ def test_a_refused_download_is_explained(tmp_path):
 @pytest.mark.parametrize(
     ("line", "words"),
     [
-        ("trace: line 214 breaks rule 6", "another frame is due here"),
+        ("trace: line 214 breaks rule 6", "a different F line is expected here"),
         ("overlap: rule 4 at row 3", "longer than this parent may clear in"),
         ("write fault", "a full disk"),
-        ("usage: arterial run", "none of its commands"),
+        ("usage: arterial run", "unknown command or wrong arguments"),
     ],
 )
 def test_other_lines_of_the_program_are_explained(tmp_path, line, words):

@@ -115,7 +115,7 @@ def test_answers_to_other_questions_are_no_answers():
             yield response(number, [])
 
     said, _, seconds = outcome(answers)
-    assert "no answer in 3 tries (" in said and "datagrams came that are no answers)" in said and seconds < 5
+    assert "no answer in 3 tries (" in said and "datagrams were not answers)" in said and seconds < 5
 
 
 MALFORMED = [
@@ -130,7 +130,7 @@ MALFORMED = [
 @pytest.mark.parametrize("datagram", MALFORMED, ids=range(len(MALFORMED)))
 def test_malformed_answers_are_no_answers(datagram):
     said, _, seconds = outcome(lambda octets: iter([datagram]))
-    assert "no answer in 3 tries (3 datagrams came that are no answers)" in said and seconds < 5
+    assert "no answer in 3 tries (3 datagrams were not answers)" in said and seconds < 5
 
 
 def test_a_name_without_octets_is_no_answer():

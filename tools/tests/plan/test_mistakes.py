@@ -187,8 +187,8 @@ FOUND = {
     ),
     "a decimal comma in quotes": (
         {PHASE_2: 'yellow = "4,3"}'},
-        "intersection 1 (Front St), phase 2, yellow: error: '4,3' is no number: write 4.3, with a point and without "
-        "quotes",
+        "intersection 1 (Front St), phase 2, yellow: error: expected a number, found '4,3': write 4.3, with a point "
+        "and without quotes",
     ),
     "a yellow of 0": (
         {PHASE_2: "yellow = 0, red_clear = 1.5}"},
@@ -265,8 +265,8 @@ FOUND = {
     ),
     "a time past midnight in quotes": (
         {"15:30:00": '"24:30"'},
-        "schedule 3, at: error: '24:30' is no time of day, as 07:30:00; a day has 24 hours: half past midnight is "
-        "00:30:00",
+        "schedule 3, at: error: expected a time of day, as 07:30:00, found '24:30'; a day has 24 hours: half past "
+        "midnight is 00:30:00",
     ),
     "a red clearance that is short for the width": (
         {PHASE_2: "yellow = 4.0, red_clear = 1.0}"},

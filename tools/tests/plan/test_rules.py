@@ -24,11 +24,11 @@ from .random_tables import cells_of, wrong_cell  # noqa: E402
 
 CASES = {
     1: (3, "[intersection.phase]\n3 = {ring = 4}", "phase 3 is enabled, but its ring is 4"),
-    2: (2, "[intersection.phase]\n2 = {concurrent = [5, 6, 17]}", "phase 2 may be on beside 17, which is no phase"),
+    2: (2, "[intersection.phase]\n2 = {concurrent = [5, 6, 17]}", "phase 2 may be on with 17, which is no phase"),
     3: (
         1,
         "[intersection.phase]\n5 = {concurrent = [2]}",
-        "phase 1 may be on beside phase 5, but not the other way round: 5 lists 2",
+        "phase 1 may be on with phase 5, but not the other way round: 5 lists 2",
     ),
     4: (
         1, "[intersection.phase]\n1 = {concurrent = [5, 6, 2]}\n2 = {concurrent = [5, 6, 1]}",
@@ -37,13 +37,13 @@ CASES = {
     5: (
         3,
         "[intersection.phase]\n\"7 8\" = {enabled = false}",
-        "no enabled phase may be on beside phase 3 (its list is 7 and 8)",
+        "no enabled phase may be on with phase 3 (its list is 7 and 8)",
     ),
     6: (
         1, "[intersection.phase]\n1 = {concurrent = [6]}\n5 = {concurrent = [2]}",
-        "phase 1 may be on beside 6, and phase 2 of the same ring beside 5 and 6",
+        "phase 1 may be on with 6, and phase 2 of the same ring with 5 and 6",
     ),
-    7: (0, 'rings = ["1 2", "5 6"]', "phases 1, 2, 5 and 6 all stand on one side of the barrier"),
+    7: (0, 'rings = ["1 2", "5 6"]', "phases 1, 2, 5 and 6 are all in one barrier group"),
     8: (
         1,
         '[intersection.sequence]\n1 = ["1 2 3", "5 6 7 8"]',
@@ -57,7 +57,7 @@ CASES = {
     10: (4, "[intersection.phase]\n4 = {yellow = 2.9}", "phase 4 has a yellow change of 2.9 s; it must be 3 s or more"),
     11: (
         2, "[intersection.phase]\n2 = {red_revert = 9.6}",
-        "phase 2 has a red revert of 9.6 s, but phase 1 may be over after 9.5 s (minimum green 5 + yellow 3.5 + red 1)",
+        "phase 2 has a red revert of 9.6 s, but phase 1 may have ended after 9.5 s (minimum green 5 + yellow 3.5 + red 1)",
     ),
     12: (2, '[intersection.phase]\n4 = {startup = "green"}', "phase 2 starts up green, and so does phase 4"),
     13: (0, "[intersection.coordination]\nskip_limit = 0", "skip_limit is 0; it must be 0.1 s or more"),
@@ -162,7 +162,7 @@ def test_a_download_that_moves_a_phase_is_told_with_rule_21():
     found = check.findings(sources.Source("street.json", street=reading.Street(scenario, reading.names.Names())))
     assert [(it.level, it.rule) for it in found if it.level is not Level.NOTE] == [(Level.WARNING, 21)]
     assert (
-        "download 1, due in round 1, will be refused: the download turns phase 1 off; a cabinet takes that in flash "
+        "download 1, sent in round 1, will be refused: the download turns phase 1 off; a cabinet takes that in flash "
         "alone"
         in found[0].words
     )

@@ -120,7 +120,7 @@ def test_a_t_intersection_gets_the_partner_that_its_rings_need():
     assert [tables.pattern(1, column) for column in (2, 3, 4, 5)] == [90, 20, 1, 1]
     assert [phase for phase in range(1, 17) if tables.split(1, phase, 5) and phase in tables.enabled()] == [2, 6]
     assert found.names.intersections[0].partners == [8]
-    assert len(found.notes) == 1 and "phase 8 is entered beside phase 4" in found.notes[0]
+    assert len(found.notes) == 1 and "phase 8 is added next to phase 4" in found.notes[0]
 
 
 def test_partners_are_left_out_again_where_the_names_are_there():
@@ -196,8 +196,8 @@ def test_detectors_are_timed_in_rounds():
         ("4 = {min_green = 7.5}", "7.5 s: a cabinet holds whole seconds here"),
         ("4 = {yelow = 3.5}", "yelow: no such name: yellow?"),
         ('4 = {recall = "often"}', "'often' is none of"),
-        ("17 = {yellow = 3.5}", "'17' is no phase from 1 to 16"),
-        ("4 = {walk = true}", "True is no number"),
+        ("17 = {yellow = 3.5}", "'17' is not a phase from 1 to 16"),
+        ("4 = {walk = true}", "expected a number, found True"),
     ],
 )
 def test_what_a_sheet_can_not_say_is_told_with_its_place(line, words):

@@ -76,7 +76,7 @@ def test_the_factor_of_the_volumes_may_vary():
     [
         ({"volumes": {"file": "one.volumes.toml", "fil": 1}}, "study: volumes.fil is unknown: is file meant?"),
         ({"traffic": {"flow": [{"cabinet": 1, "phase": 2, "vehicles": 9}]}},
-         "study: traffic.flow and volumes don't go together: each tells what the detectors see"),
+         "study: traffic.flow and volumes exclude each other: each defines what the detectors see"),
     ],
 )  # fmt: skip
 def test_a_table_of_volumes_that_can_not_be_taken_is_refused(more, line):
@@ -87,7 +87,7 @@ def test_a_table_of_volumes_that_can_not_be_taken_is_refused(more, line):
 
 def test_measures_of_vehicles_need_volumes():
     study = {name: it for name, it in STUDY.items() if name not in ("volumes", "seeds")}
-    with pytest.raises(Fault, match="study: delay_mean needs the table volumes, which tells who comes"):
+    with pytest.raises(Fault, match="study: delay_mean needs the table volumes, which has the traffic"):
         prepared(study, FILES.__getitem__, program_here())
 
 

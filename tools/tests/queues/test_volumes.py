@@ -79,7 +79,7 @@ def changed(one: str, other: str, count: int = 1) -> str:
         ),
         (changed("phase = 6", "phase = 9"), "volumes: WBT of cabinet 1: phase 9 is not enabled in cabinet 1"),
         (changed("number = 2", "number = 3"), "volumes: EBT of cabinet 3: the scenario has no cabinet 3"),
-        (changed("number = 2", "number = 1"), "volumes: cabinet 1 stands there twice"),
+        (changed("number = 2", "number = 1"), "volumes: cabinet 1 is listed twice"),
         (
             changed('until = "8:00"', 'until = "7:60"'),
             'volumes: profiles.day.until has to be a time of day, as "09:00"',
@@ -97,7 +97,7 @@ def changed(one: str, other: str, count: int = 1) -> str:
         (changed('profile = "day"', 'profile = "dai"'), "volumes: EBT of cabinet 1: no profile dai: is day meant?"),
         (
             changed('to = "2 EB"', 'to = "2 WX"'),
-            "volumes: EBT of cabinet 1 goes to 2 WX, and there is no such approach",
+            "volumes: EBT of cabinet 1 goes to 2 WX, an approach that doesn't exist",
         ),
         (
             changed('to = "2 EB"', 'to = "next"'),

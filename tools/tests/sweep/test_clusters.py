@@ -125,7 +125,7 @@ def test_an_interrupted_sweep_goes_on(folder, held, reference):
     held.let_go()
     words = ("study.toml", "-o", "out.csv", "--workers", 1, "--program", held.path)
     status, _, said = sweep(folder, *words)
-    assert status == 2 and "--resume goes on with it" in said
+    assert status == 2 and "--resume continues with it" in said
     status, _, said = sweep(folder, *words, "--resume")
     assert status == 0 and f"{done} of them before" in said, said
     assert (folder / "out.csv").read_text() == reference
@@ -239,7 +239,7 @@ def test_words_about_workers_that_dont_go_together_are_refused(folder):
         assert status == 2 and line in said and said.count("\n") == 1
     missing = ["--tls-ca", "none.pem", "--tls-cert", "none.pem", "--tls-key", "none.pem"]
     status, _, said = sweep(folder, "study.toml", "-o", "out.csv", "--scheduler", "tls://127.0.0.1:1", *missing)
-    assert status == 1 and "none.pem: there is no such file" in said
+    assert status == 1 and "none.pem: no such file" in said
 
 
 SBATCH = """#!/bin/sh

@@ -100,7 +100,7 @@ def test_a_study_of_a_milliard_runs_is_not_begun_unasked(folder, monkeypatch, ca
     )
     (folder / "study.toml").write_text(text)
     assert run(["sweep", "study.toml", "-o", "out.csv"]) == 2
-    assert capsys.readouterr().err == "sweep: the study makes 1,000,000,000 runs: --yes makes more than 100,000\n"
+    assert capsys.readouterr().err == "sweep: the study makes 1,000,000,000 runs: --yes allows more than 100,000\n"
     assert not (folder / "out.csv.runs").exists()
 
 
@@ -158,7 +158,7 @@ def test_a_disk_that_is_full_is_told_and_what_was_done_is_kept(tmp_path):
         journal.add([("a", row)])
         try:
             resource.setrlimit(resource.RLIMIT_FSIZE, (path.stat().st_size + 20, before[1]))
-            with pytest.raises(Fault, match="File too large; the runs before it are kept, and --resume goes on"):
+            with pytest.raises(Fault, match="File too large; earlier runs are kept, and --resume continues"):
                 journal.add([("b", row), ("c", row)])
         finally:
             resource.setrlimit(resource.RLIMIT_FSIZE, before)

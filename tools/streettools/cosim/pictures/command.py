@@ -39,12 +39,19 @@ def parser() -> argparse.ArgumentParser:
     words.add_argument("kind", choices=KINDS, help="the picture to draw")
     words.add_argument("folder", help="the folder of the run (its -o)")
     add_output(words, "the picture: .svg, .png or .pdf", type=picture, required=True)
-    words.add_argument("--cabinet", type=number(1, 64), default=1, metavar="N", help="the cabinet, except for paths (default: 1)")
-    words.add_argument("--movement", metavar="NAME,..", help="the movements (default: the two busiest for purdue, all for queues)")
-    words.add_argument("--cabinets", type=numbers, metavar="N,N,..", help="the cabinets of paths, in order (default: all)")
+    words.add_argument(
+        "--cabinet", type=number(1, 64), default=1, metavar="N", help="the cabinet, except for paths (default: 1)"
+    )
+    words.add_argument(
+        "--movement", metavar="NAME,..", help="the movements (default: for purdue the two busiest, for queues all)"
+    )
+    words.add_argument(
+        "--cabinets", type=numbers, metavar="N,N,..", help="the cabinets of paths, in order (default: all)"
+    )
     words.add_argument("--travel", type=travel, metavar="S,S,..", help="seconds from each cabinet to the next (paths)")
     words.add_argument("--from", dest="first", type=run_seconds, metavar="TIME",
-                       help="where to begin: seconds, as 90; or 1:30, or ticks, as 900t (default: the --warm of the run)")  # fmt: skip
+                       help="where to begin: seconds, as 90; or 1:30, or ticks, as 900t "
+                       "(default: --warm of the run)")  # fmt: skip
     words.add_argument("--to", dest="last", type=run_seconds, metavar="TIME", help="where to end, in the same forms")
     words.add_argument("--start", type=daytime, metavar="TIME", help="the time of day at second 0, as 07:00:00")
     return words
@@ -66,7 +73,7 @@ def view_of(words: argparse.Namespace, study: Study) -> View:
     start = study.warm if words.first is None else words.first
     end = min(study.seconds, start + USUAL[words.kind]) if words.last is None else words.last
     if not 0 <= start < end <= study.seconds:
-        raise Fault(f"the run has seconds 0 to {study.seconds:g}, and {start:g} to {end:g} are asked for")
+        raise Fault(f"expected a range within seconds 0 to {study.seconds:g}, found {start:g} to {end:g}")
     if end - start > MOST:
         raise Fault(f"at most {MOST:g} s fit into a picture")
     return View(start, end, words.start)

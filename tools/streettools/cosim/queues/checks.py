@@ -14,7 +14,7 @@ def tables_of(scenario: dict[str, Any]) -> dict[int, Tables]:
         rows = enumerate(scenario["cabinets"], 1)
         return {number: Tables(it.get("base", "std8"), it.get("cells", ())) for number, it in rows}
     except (TypeError, ValueError, AttributeError, KeyError):
-        raise Fault("no scenario (./arterial run tells why)") from None
+        raise Fault("not a valid scenario (./arterial run shows why)") from None
 
 
 def check(volumes: Volumes, scenario: dict[str, Any], seconds: float) -> None:
@@ -74,7 +74,7 @@ def names_are_known(volumes: Volumes) -> None:
         there = approaches.get((onward.cabinet, onward.approach))
         if there is None:
             where = f"{onward.cabinet} {onward.approach}"
-            raise Fault(f"volumes: {told(it)} goes to {where}, and there is no such approach")
+            raise Fault(f"volumes: {told(it)} goes to {where}, an approach that doesn't exist")
         if not sum(other.volume for other in there):
             raise Fault(
                 f"volumes: approach {onward.approach} of cabinet {onward.cabinet} has no volumes, "

@@ -59,7 +59,7 @@ def read_scenario(text: bytes, name: str) -> dict[str, Any]:
             raise ValueError
         scenario["rounds"] * scenario["ticks"] * 1.0
     except (ValueError, KeyError, TypeError, RecursionError):
-        raise Fault(f"{name} is no scenario (./arterial run tells why)") from None
+        raise Fault(f"{name} is not a valid scenario (./arterial run shows why)") from None
     return scenario
 
 

@@ -114,7 +114,7 @@ def profile_of(name: str, given: Given) -> Profile:
             continue
         at = time_of(word)
         if at is None:
-            raise given.refuse(word, 'is no time of day, as "07:00"')
+            raise given.refuse(word, 'is not a time of day, as "07:00"')
         steps.append((at, float(given.within(word, NUMBER, 0, 1000))))
     if not steps or sorted(steps) != steps or len({at for at, _ in steps}) < len(steps) or steps[-1][0] >= until:
         raise Fault(f"volumes: {given.place} needs rising times of day, all before until")
@@ -236,5 +236,5 @@ def volumes_of(document: dict[str, Any]) -> Volumes:
     given.end()
     twice = next((it for it in numbers if numbers.count(it) > 1), None)
     if twice is not None:
-        raise Fault(f"volumes: cabinet {twice} stands there twice")
+        raise Fault(f"volumes: cabinet {twice} is listed twice")
     return Volumes(title, tuple(flows), tuple(crossings), frozenset(idle), profiles, float(factor))
