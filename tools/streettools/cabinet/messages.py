@@ -43,7 +43,7 @@ def message(
 
 def kind_of(octets: bytes) -> int:
     """Returns the kind of a message."""
-    return head_of(octets).kind
+    return head_of(octets)[0].kind
 
 
 def reply_of(octets: bytes) -> Reply:

@@ -26,6 +26,7 @@ def parser() -> argparse.ArgumentParser:
         description="Makes the Debian package with the record of the proof, and arterial-VERSION-proof.tgz for "
         "./arterial take, from a checkout whose program is proved. Prints the name and the SHA-256 of each.",
         epilog="example: tools/release /tmp",
+        formatter_class=argparse.HelpFormatter,
     )
     words.add_argument("folder", type=pathlib.Path, nargs="?", default=pathlib.Path("."), help="where the files are written (default: the current one)")
     words.add_argument("--no-package", action="store_true", help="only the proof, no Debian package")

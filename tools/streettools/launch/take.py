@@ -42,6 +42,7 @@ def parser() -> argparse.ArgumentParser:
         description="Takes over a proof that tools/release made of the same sources: from then on the proved program "
         "answers at once, and each call says that it was proved by its maker, not here. ./arterial prove confirms it.",
         epilog="example: ./arterial take arterial-0.8-proof.tgz --sum 0f1e..",
+        formatter_class=argparse.HelpFormatter,
     )
     words.add_argument("file", type=pathlib.Path, help="the file of the proof")
     words.add_argument("--sum", metavar="SHA256", help="the checksum of the file, as its maker published it")

@@ -65,8 +65,8 @@ def orders(digits: str) -> list[Order]:
     if not any(name in digits for name in ORDERS):
         return []
     try:
-        head = head_of(bytes.fromhex(digits))
-        bindings = [] if head.first else bindings_of(head.pairs)
+        head, pairs = head_of(bytes.fromhex(digits))
+        bindings = [] if head.first else bindings_of(pairs)
     except ValueError:
         return []
     found = (order(*it) for it in bindings)
@@ -97,8 +97,8 @@ def valued(value: Field) -> int | str:
 def refused(digits: str) -> RefusedSet | None:
     """Returns the Set that a reply's hexadecimal digits refuse; None if they refuse none, or are no reply."""
     try:
-        head = head_of(bytes.fromhex(digits))
-        bindings: list[Binding] = bindings_of(head.pairs) if head.first else []
+        head, pairs = head_of(bytes.fromhex(digits))
+        bindings: list[Binding] = bindings_of(pairs) if head.first else []
     except ValueError:
         return None
     if not bindings or bindings[0].value.tag == NULL:

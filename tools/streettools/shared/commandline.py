@@ -25,7 +25,6 @@ class Parser(argparse.ArgumentParser):
         # the boundary takes this option away before the others are read
         self.add_argument("--traceback", action="store_true", help="if this tool has a fault, show where")
 
-
     def error(self, message: str) -> NoReturn:
         """Refuses the words in one line."""
         say(self.prog.removeprefix("arterial "), f"{message}; --help lists the options")

@@ -69,7 +69,7 @@ def is_read(request: bytes, answer: list[bytes]) -> bool:
 
 def is_set(octets: bytes) -> bool:
     """Tells whether a message that was answered is a Set (RFC 1157)."""
-    return head_of(octets).kind == SET
+    return head_of(octets)[0].kind == SET
 
 
 class Brought(NamedTuple):

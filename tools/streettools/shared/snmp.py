@@ -46,40 +46,30 @@ class Message(NamedTuple):
     bindings: list[Binding]
 
 
-class Head(NamedTuple):
-    """A message whose bindings aren't read yet."""
-
-    version: int
-    community: bytes
-    kind: int
-    number: int
-    first: int
-    second: int
-    pairs: bytes
-
-
 def number_in(field: Field) -> int:
     """Returns the number of an INTEGER."""
     return number_of(content_of(field, INTEGER))
 
 
-def head_of(octets: bytes) -> Head:
-    """Returns the head of the message that octets are; `Malformed` is raised if they are none."""
+def head_of(octets: bytes) -> tuple[Message, bytes]:
+    """Returns the message that octets are, without its bindings, and the octets of these; `Malformed` is raised if they
+    are none."""
     (whole,) = several(octets, 1)
     version, community, (kind, body) = several(content_of(whole, LIST), 3)
     number, first, second, pairs = several(body, 4)
-    found = Head(
+    found = Message(
         number_in(version),
         content_of(community, OCTETS),
         kind,
         number_in(number),
         number_in(first),
         number_in(second),
-        content_of(pairs, LIST),
+        [],
     )
+    octets_of_pairs = content_of(pairs, LIST)
     if found.kind not in KINDS.get(found.version, ()):
         raise Malformed(f"version {found.version} has no message of tag {found.kind}")
-    return found
+    return found, octets_of_pairs
 
 
 def bindings_of(pairs: bytes) -> list[Binding]:
@@ -89,8 +79,8 @@ def bindings_of(pairs: bytes) -> list[Binding]:
 
 def message_of(octets: bytes) -> Message:
     """Returns the message that octets are; `Malformed` is raised if they are none."""
-    it = head_of(octets)
-    return Message(it.version, it.community, it.kind, it.number, it.first, it.second, bindings_of(it.pairs))
+    head, pairs = head_of(octets)
+    return head._replace(bindings=bindings_of(pairs))
 
 
 def binding_of(pair: bytes) -> Binding:

@@ -6,7 +6,9 @@ import json
 import os
 import zipfile
 
+import pytest
 from hypothesis import given
+from hypothesis.strategies import data
 from streettools.plan import book, book_reading, check, explain, names, reading, sources, toml_text, utdf_in, utdf_out
 from streettools.plan import utdf_text, walk, writing
 from streettools.plan.given import Unreadable
@@ -50,10 +52,11 @@ def planned(path: str, content: bytes, known: names.Names | None = None) -> None
         assert str(fault)
 
 
+@pytest.mark.parametrize("name, texts", [("x.toml", SHEETS), ("x.json", SCENARIOS)])
 @tried(700)
-@given(damaged(SHEETS))
-def test_damaged_sheets(content):
-    planned("x.toml", content)
+@given(data())
+def test_damaged_sheets_and_scenarios(name, texts, drawn):
+    planned(name, drawn.draw(damaged(texts)))
 
 
 @tried(400)
@@ -65,12 +68,6 @@ def test_sheets_with_other_values(sheet):
             writing.sheet_of(street)
     except Fault as fault:
         assert str(fault)
-
-
-@tried(700)
-@given(damaged(SCENARIOS))
-def test_damaged_scenarios(content):
-    planned("x.json", content)
 
 
 @tried(400)

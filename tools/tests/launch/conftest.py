@@ -99,6 +99,21 @@ def interrupt(running):
     os.killpg(running.pid, signal.SIGINT)
 
 
+def end_after(running, pause):
+    """Lets a call that reads nothing run for a while, then interrupts it until it ends."""
+    running.stdin.close()
+    running.stdin = None
+    waits = pause
+    while True:
+        try:
+            running.wait(waits)
+            break
+        except subprocess.TimeoutExpired:
+            interrupt(running)
+            waits = 0.3
+    assert running.returncode in (130, -2)
+
+
 @pytest.fixture
 def tried(tmp_path):
     """A copy in which nothing is proved."""

@@ -5,7 +5,7 @@ import subprocess
 
 import pytest
 
-from .conftest import BUILT, SECONDS, ended, interrupt, wait_for
+from .conftest import BUILT, SECONDS, end_after, ended, wait_for
 
 FIRST = (
     "arterial: there is no proved program here yet: the unproved program answers; building it takes about a minute "
@@ -113,19 +113,7 @@ def test_too_much_memory_ends_with_124_and_one_sentence(kept):
 @pytest.mark.parametrize("pause", [0.05, 0.2, 0.5])
 def test_an_interrupt_while_it_is_built_leaves_nothing_behind(tried, pause):
     running = tried.started("run", PAUSE="5", KEEPS="1")
-    running.stdin.close()
-    running.stdin = None
-    try:
-        running.wait(pause)
-    except subprocess.TimeoutExpired:
-        pass
-    while running.poll() is None:
-        interrupt(running)
-        try:
-            running.wait(0.3)
-        except subprocess.TimeoutExpired:
-            pass
-    assert running.returncode in (130, -2)
+    end_after(running, pause)
     assert not tried.program.parent.exists() or left(tried) in ([], [".trying"])
     assert tried.ran("run", "--workers", "2", KEEPS="1") == (*BUILT, FIRST)
 

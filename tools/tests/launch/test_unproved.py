@@ -9,7 +9,7 @@ import tempfile
 
 import pytest
 
-from .conftest import BUILT, HERE, SECONDS, Tried, ended, interrupt, wait_for
+from .conftest import BUILT, HERE, SECONDS, Tried, end_after, ended, interrupt, wait_for
 
 FIRST = (
     "arterial: there is no proved program here yet: the unproved program answers; building it takes about a minute "
@@ -100,19 +100,7 @@ def test_a_program_that_was_not_proved_here_is_not_run(tried):
 @pytest.mark.parametrize("pause", [0, 0.02, 0.05, 0.1, 0.2, 0.4])
 def test_an_interrupt_ends_it_at_any_moment_without_a_trace_of_its_insides(tried, pause):
     running = tried.started("run", PAUSE="2")
-    running.stdin.close()
-    running.stdin = None
-    try:
-        running.wait(pause)
-    except subprocess.TimeoutExpired:
-        pass
-    while running.poll() is None:
-        interrupt(running)
-        try:
-            running.wait(0.3)
-        except subprocess.TimeoutExpired:
-            pass
-    assert running.returncode in (130, -2)
+    end_after(running, pause)
     assert running.stdout.read() == "" and running.stderr.read() in ("", FIRST)
 
 
