@@ -13,9 +13,10 @@ from . import drawing, fields, rules
 from ..shared.cells import value
 from .layout import Layout, least_service
 from .names import Intersection
+from .pattern_rules import has_pair
 from .pattern_sentences import sentences
 
-WRONG = "#c9302c"
+WRONG, ZERO = "#c9302c", "#1c4f9c"
 LIGHT, PALE = "#cfe8d6", "#f1f3f5"
 LETTERS, INCH_LINES = 165, 0.19
 SHORT = {"minimum": "min", "maximum": "max", "pedestrian": "ped", "none": "none"}
@@ -111,6 +112,24 @@ def draw_barriers(axes, tables: Tables, drawn: list[Slot]) -> None:
                 axes.plot([after.start] * 2, [low - 0.1, low + 1.1], color=INK, linewidth=3)
 
 
+def draw_zero(axes, laid: Layout) -> None:
+    """Marks local zero, and the moment to which the offset refers: local zero, or the end of the green that the
+    coordinated phases share."""
+    if laid.pattern not in laid.tables.patterns() or not has_pair(laid.tables, laid.pattern):
+        return
+    if not all(it in laid.slots for it in laid.coordinated):
+        return
+    offset = f"offset {value(laid.tables, ('pattern', laid.pattern, 3))} s"
+    is_end = value(laid.tables, ("unit", 8)) == 2
+    marks = {laid.zero: "local zero" if is_end else f"local zero: {offset}"}
+    if is_end:
+        marks[(laid.zero + laid.window) % laid.cycle] = f"end of green: {offset}"
+    for ticks, words in marks.items():
+        axes.axvline(ticks / 10, color=ZERO, linewidth=1.5, linestyle=(0, (4, 2)), zorder=6, gid=f"moment-{ticks}")
+        look = {"ha": "left" if ticks < laid.cycle / 2 else "right", "va": "bottom", "fontsize": 8, "color": ZERO}
+        axes.text(ticks / 10, 2.38, words, **look)
+
+
 def table_text(tables: Tables, known: Intersection) -> str:
     """Returns the times of the phases as lines of even width."""
     phases = [it for it in tables.enabled() if it not in known.partners]
@@ -149,6 +168,7 @@ def write(tables: Tables, known: Intersection, called: str, pattern: int, path: 
     drawn = slots(tables, pattern)
     draw_slots(axes, laid, known, drawn, short)
     draw_barriers(axes, tables, drawn)
+    draw_zero(axes, laid)
     axes.set(
         xlim=(0, max((it.start + it.length for it in drawn), default=1)),
         ylim=(-0.15, 2.35),

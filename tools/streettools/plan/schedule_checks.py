@@ -4,7 +4,7 @@ without entries, times of day in the wrong form, clocks that aren't set."""
 from collections.abc import Iterator
 from typing import NamedTuple
 
-from ..shared.cells import PATTERNS
+from ..shared.cells import PATTERNS, value
 from ..shared.clock import day_text
 from ..shared.tables import Tables
 from .findings import Finding, Rank, warn
@@ -70,7 +70,9 @@ def kept(line: list[Entry], at: int, versions: list[Tables], opening: int) -> st
     for back in range(1, len(line)):
         entry = line[at - back]
         if not all(undefined(it, entry.pattern) for it in versions):
-            return f"{called(entry.pattern)}, commanded at {day_text(entry.second)}"
+            backup = value(versions[0], ("unit", 5))
+            until = f", until backup_time ({backup} s) is over, then in free operation" if backup else ""
+            return f"{called(entry.pattern)}, commanded at {day_text(entry.second)}{until}"
     return called(0 if undefined(versions[0], opening) else opening)
 
 

@@ -332,6 +332,23 @@ def test_names_stand_beside_the_lanes(shown, tmp_path):
     assert page.faults() == []
 
 
+def test_long_names_are_whole(shown, tmp_path):
+    """Two lines of a row hold a usual name; 90 letters are drawn narrower. Nothing begins left of the page."""
+    names = tmp_path / "x.names.json"
+    long = "Harbor Boulevard & Frontage Road " * 3
+    phases = '{"4": {"name": "Frontage Road northbound and left turns"}}'
+    names.write_text(
+        f'{{"intersections": [{{"name": "{long.strip()}", "phases": {phases}}}, {{"name": "Harbor Blvd & Depot St"}}]}}'
+    )
+    page = shown("--names", names, STREET)
+    labels = page.run(
+        "return [...document.querySelectorAll('.labels text')].map(it => [it.textContent, it.getBBox().x])"
+    )
+    told = [text for text, _ in labels]
+    assert f"{long.strip()} (cabinet 1)" in told and "Harbor Blvd & Depot St (cabinet 2)" in told
+    assert all(x >= 0 for _, x in labels) and page.faults() == []
+
+
 def test_a_view_is_printed(shown):
     page = shown("--travel", "20,20,20", STREET, at="#from=5000&to=9000")
     width = page.run("return document.querySelector('#rings canvas').width")

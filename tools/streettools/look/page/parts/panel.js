@@ -2,7 +2,33 @@
 
 `plan()` gives the rows: their `y`, `height` and `label`, and the height of all. `draw(context, panel, isSeen)` draws
 those that are seen. */
-const LEFT = 168, TOP = 20, RIGHT = 26;
+const LEFT = 168, TOP = 20, RIGHT = 26, LINE = 12;
+
+/* The lines of a label, each as wide as fits, and no more of them than have room: the last line has all that is left. */
+function linesOf(node, label, most, count) {
+  const lines = [""];
+  for (const word of label.split(/(?<= )/)) {
+    const longer = lines[lines.length - 1] + word;
+    node.textContent = longer.trimEnd();
+    if (lines.length < count && longer !== word && node.getComputedTextLength() > most) lines.push(word);
+    else lines[lines.length - 1] = longer;
+  }
+  return lines;
+}
+
+/* Writes the label of a row whole: in several lines if it is long, and narrower if a line is still too long. */
+function writeLabel(node, row) {
+  const text = d3.select(node), most = LEFT - 16, middle = row.y + row.height / 2;
+  const lines = linesOf(node, row.label, most, Math.max(1, Math.floor((row.height + 4) / LINE)));
+  text.text(null);
+  lines.forEach((line, place) => {
+    const part = text.append("tspan").attr("x", LEFT - 8).attr("dy", "0.34em").text(line);
+    part.attr("y", middle + (place - (lines.length - 1) / 2) * LINE);
+    if (part.node().getComputedTextLength() > most) {
+      part.attr("textLength", most).attr("lengthAdjust", "spacingAndGlyphs");
+    }
+  });
+}
 
 class Panel {
   static all = [];
@@ -44,8 +70,9 @@ class Panel {
 
   label() {
     const texts = this.labels.selectAll("text").data(this.rows.rows.filter(row => row.label)).join("text");
-    texts.attr("x", LEFT - 8).attr("text-anchor", "end").attr("dy", "0.34em").attr("y", row => row.y + row.height / 2);
-    texts.text(row => row.label).attr("class", row => `${row.pick ? "pick" : ""} ${row.chosen ? "chosen" : ""}`);
+    texts.attr("text-anchor", "end");
+    texts.attr("class", row => `${row.pick ? "pick" : ""} ${row.chosen ? "chosen" : ""}`);
+    texts.each(function write(row) { writeLabel(this, row); });
     texts.on("click", row => row.pick && row.pick());
   }
 
