@@ -4,7 +4,7 @@
 those that are seen. */
 const LEFT = 168, TOP = 20, RIGHT = 26, LINE = 12;
 
-/* The lines of a label, each as wide as fits, and no more of them than have room: the last line has all that is left. */
+/* The lines of a label, each as wide as fits, and no more than have room: the last has all that is left. */
 function linesOf(node, label, most, count) {
   const lines = [""];
   for (const word of label.split(/(?<= )/)) {
