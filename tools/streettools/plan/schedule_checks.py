@@ -129,12 +129,17 @@ def meant(second: int) -> int:
 
 def is_doubtful(street: Street, entry: Entry, line: list[Entry]) -> bool:
     """Tells whether the second of an entry was probably meant as hours and minutes: in a sheet if it was written as a
-    number; else if all are so, if it isn't a whole minute, or if only as hours and minutes it is in order."""
+    number; else if all are so, or if all others are later in the day and it isn't a whole minute, or in order only as
+    hours and minutes."""
     if not looks_like_a_clock(entry.second):
         return False
     if street.numbers is not None:
         return entry.place in street.numbers
-    if all(it.second < 2400 and it.second % 100 < 60 for it in line) or entry.second % 60:
+    if all(it.second < 2400 and it.second % 100 < 60 for it in line):
+        return True
+    if any(0 < it.second < 2400 and not looks_like_a_clock(it.second) for it in line):
+        return False
+    if entry.second % 60:
         return True
     before = [it.second for it in line if it.place < entry.place and it.section == entry.section]
     return bool(before) and entry.second < before[-1] < meant(entry.second)

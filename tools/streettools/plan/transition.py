@@ -109,11 +109,11 @@ def other_limits(tables: Tables, change: Change) -> list[str]:
         limit = min(greatest[name], change.cycle)
         other = change.limited(name, limit)
         if limit > getattr(change.by, FIELDS[name]) and other.cycles < change.cycles:
-            told.append(f"{name} = {limit / 10:g} makes that {other.words}")
+            told.append(f"{name} = {limit / 10:g}, {other.words}")
     if change.by.mode != SHORTWAY:
         other = Change(change.by._replace(mode=SHORTWAY), change.cycle, change.pickup, change.drifts)
         if other.cycles < change.cycles:
-            told.append(f'correction = "shortway" {other.words}')
+            told.append(f'correction = "shortway", {other.words}')
     return told
 
 
@@ -150,7 +150,7 @@ def of_patterns(street: Street, tables: list[Tables]) -> Iterator[Finding]:
             f"a change to pattern {pattern} takes up to {changes[worst].words} to come onto its offset "
             f"({limit_words(changes[worst].by)})"
         )
-        yield note(many(like), words + (f"; by the rules, {', '.join(others)}" if others else ""))
+        yield note(many(like), words + (f"; the rules also allow {'; '.join(others)}" if others else ""))
 
 
 def of_drifts(street: Street, tables: list[Tables]) -> Iterator[Finding]:

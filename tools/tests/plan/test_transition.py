@@ -64,8 +64,8 @@ def test_a_change_of_plan_has_its_cycles_and_minutes():
     told = notes_of(SHEET)
     assert told[0] == (
         "Grant St: note: a change to pattern 2 takes up to 14 cycles (29 min) to come onto its offset (shortway, "
-        "add_limit 5 s, skip_limit 3 s); by the rules, add_limit = 31.5 makes that 4 cycles (12 min), skip_limit = "
-        "12.5 makes that 7 cycles (17 min)"
+        "add_limit 5 s, skip_limit 3 s); the rules also allow add_limit = 31.5, 4 cycles (12 min); skip_limit = 12.5, "
+        "7 cycles (17 min)"
     )
     assert told[1] == (
         "schedule: note: at 06:30:00 pattern 2: every intersection is on its offset by 06:58:45 at the latest; Grant "

@@ -119,6 +119,25 @@ def test_schedules_are_looked_at():
     assert findings("schedule = [{at = 70, pattern = 254}, {at = 06:00:00, pattern = 1}]\n[[intersection]]\n") == []
 
 
+@pytest.mark.parametrize(
+    ("seconds", "meant"),
+    [
+        ([630, 34200, 55800], ["6:30"]),
+        ([34200, 1530], ["15:30"]),
+        ([34200, 1500, 68400], ["15:00"]),
+        ([600, 34200], []),
+        ([70, 130, 34200], []),
+        ([0, 600, 34200], []),
+    ],
+)
+def test_a_scenario_with_one_time_as_hours_and_minutes_is_warned_of(seconds, meant):
+    """630 and 1530 are no whole minutes; 1500, after 9:30, is in order as 15:00. A run from midnight on is nothing."""
+    schedule = [{"second": it, "section": 1, "pattern": 1} for it in seconds]
+    street = reading.Street({**SCENARIO, "master": {"schedule": schedule}}, names.Names())
+    found = [str(it) for it in check.findings(sources.Source("street.json", "{}", street=street))]
+    assert [it.split("; is ")[1].split(" meant")[0] for it in found if "; is " in it and "meant" in it] == meant
+
+
 def test_a_scenario_in_which_whole_seconds_stand_for_tenths_is_warned_of(tmp_path):
     """Cells have tenths: 2 of red clearance are 0.2 s; a yellow of 4 breaks rule 10, and its sentence asks the same."""
     path = tmp_path / "street.json"
