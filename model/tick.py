@@ -93,7 +93,7 @@ def moves(past: Past, now: TickState, rings: Rings, started: set[int]) -> tuple[
     return rings.ending(), rings.beginning()
 
 
-@dataclass
+@dataclass(eq=False)
 class Decided:
     """What a tick decides of greens, from the past before it: the phases that turn Green as Start ends, those that
     turn Yellow, those that turn Green."""

@@ -4,6 +4,7 @@ Nothing is reckoned again here: each question is asked of the function by which 
 them in words). The first reason is the answer; others that hold at the same tick follow it.
 """
 
+import functools
 from enum import Enum
 from typing import NamedTuple
 
@@ -15,7 +16,7 @@ from model.rings import Ending, Hold, is_startable, runs_out
 from model.sides import incompatible
 from model.tables import enabled, rows
 from model.tick import Decided
-from model.words import FLASH, START, Colour, Signal
+from model.words import FLASH, PHASES, START, Colour, Signal
 from model.words import Kind as ModeKind
 
 
@@ -84,8 +85,9 @@ def called_by(at: Decided, p: int) -> tuple[Caller, ...]:
     return found
 
 
+@functools.lru_cache(len(PHASES))
 def reasons(at: Decided, p: int) -> Reasons:
-    """Returns why a phase is green or isn't, in the frame that a tick gives."""
+    """Returns why a phase is green or isn't, in the frame that a tick gives. Watches of one phase share it."""
     shown = at.past.last.frame.lights.of[p]
     if p in at.begun:
         return (Reason(Kind.BEGINS, word=came_by(at, p)),)

@@ -1,7 +1,7 @@
 """What is said of generated ticks and phases of the vectors' traces agrees with the letters of the trace's own lines,
 and with what the model computes at each tick.
 
-`WHY_TICKS=10000 pytest tools/tests/why/test_agreement.py` takes 10,000 over all traces (about ten minutes).
+`WHY_TICKS=10000 pytest tools/tests/why/test_agreement.py` takes 10,000 over all traces (some minutes).
 """
 
 import bisect
@@ -19,15 +19,15 @@ from model.plan import plan, split_mode  # noqa: E402
 from model.tables import enabled, rows  # noqa: E402
 from streettools.why import replay  # noqa: E402
 from streettools.why.reasons import Kind  # noqa: E402
-from streettools.why.story import HORIZON, Watch  # noqa: E402
+from streettools.why.story import Watch  # noqa: E402
 
 SEED = 20261201
 COUNT = int(os.environ.get("WHY_TICKS", "500"))
 ALL = COUNT > 500
-BYTES, FIRST = (10**9, 10**9) if ALL else (12_000, 1_500)
+BYTES, FIRST = (10**9, 5_000) if ALL else (12_000, 1_500)
 """The suite takes traces with at most so many bytes, and ticks among the first so many."""
 
-AHEAD = HORIZON if ALL else 400
+AHEAD = 3_000 if ALL else 400
 """So many ticks after the tick that is asked for are looked at."""
 
 TRACES = sorted([*TOP.glob("vectors/whole/*.trace"), *TOP.glob("vectors/free/*.trace"),
