@@ -164,6 +164,17 @@ def test_the_line_under_the_pointer_is_that_of_the_trace(shown, path, cabinets):
             assert page.text("line") == due(path, cabinet, tick)
 
 
+def test_a_click_on_a_call_shows_the_command_that_says_why(shown):
+    page = shown(given=SMALL)
+    rows = "Panel.all.find(it => it.id === 'rings').rows.rows"
+    y = page.run(f"const it = {rows}.find(it => it.kind === 'calls'); return it.y + it.height / 2")
+    page.point("rings", page.run("return View.state.x(100.5)"), y)
+    ActionChains(page.driver, duration=0).click().perform()
+    page.settle()
+    tick = page.run("return Pointer.state.tick")
+    assert page.text("why") == f"./arterial why TRACE --cabinet 1 --phase 4 --at {tick}t" and abs(tick - 100) < 5
+
+
 def test_each_tick_can_be_seen_by_itself(shown):
     """At twelve ticks across the picture, the lines around tick 160 of the car on the side street change at 160."""
     page = shown(given=SMALL, at="#from=154&to=166")

@@ -1,7 +1,8 @@
 """What is said of generated ticks and phases of the vectors' traces agrees with the letters of the trace's own lines,
 and with what the model computes at each tick.
 
-`WHY_TICKS=10000 pytest tools/tests/why/test_agreement.py` takes 10,000 over all traces (some minutes).
+`WHY_TICKS=10000 pytest tools/tests/why/test_agreement.py` takes 10,000 (about a minute), with `WHY_ALL=1` over all
+traces (some minutes).
 """
 
 import bisect
@@ -23,9 +24,12 @@ from streettools.why.story import Watch  # noqa: E402
 
 SEED = 20261201
 COUNT = int(os.environ.get("WHY_TICKS", "500"))
-ALL = COUNT > 500
-BYTES, FIRST = (10**9, 5_000) if ALL else (12_000, 1_500)
-"""The suite takes traces with at most so many bytes, and ticks among the first so many."""
+ALL = "WHY_ALL" in os.environ
+BYTES = 10**9 if ALL else 20_000 if COUNT > 500 else 12_000
+"""Traces have at most so many bytes."""
+
+FIRST = 5_000 if ALL else 1_500
+"""Ticks are among the first so many."""
 
 AHEAD = 3_000 if ALL else 400
 """So many ticks after the tick that is asked for are looked at."""

@@ -68,11 +68,24 @@ const Pointer = (() => {
     follow();
   }
 
+  /* Shows the command that says why a phase is green at the pointer's tick, or isn't: the phase of a call's row, or the
+  one that is on in a ring. */
+  function ask(panel, [, y]) {
+    const row = panel.rows.rows.find(it => y >= it.y && y <= it.y + it.height);
+    const lane = row && row.ring ? Lanes.ring(row.cabinet, row.ring, false) : null;
+    const called = row && row.kind === "calls" && !row.isPreempt ? row.number : 0;
+    const phase = lane ? lane.phases[Lanes.run(lane, state.tick)] : called;
+    if (!phase) return;
+    d3.select("#why").text(`./arterial why TRACE --cabinet ${state.cabinet} --phase ${phase} --at ${state.tick}t`);
+  }
+
   function watch(panel) {
     panel.area.on("mousemove", function move() { at(panel, d3.mouse(this)); });
     panel.area.on("touchstart.pointer", function touch() { at(panel, d3.touches(this)[0]); });
-    panel.area.on("click", () => {
-      if (panel.id !== "rings" && !d3.event.shiftKey && !d3.event.defaultPrevented) Page.choose(state.cabinet);
+    panel.area.on("click", function click() {
+      if (d3.event.shiftKey || d3.event.defaultPrevented) return;
+      if (panel.id === "rings") ask(panel, d3.mouse(this));
+      else Page.choose(state.cabinet);
     });
   }
 
