@@ -26,7 +26,7 @@ def uses(top: pathlib.Path) -> dict[str, list[str]]:
 def listed(top: pathlib.Path, names: list[str]) -> str:
     """Returns the lines of the list that are those of these crates."""
     lines = (top / LISTS[0]).read_text().splitlines(keepends=True)
-    return "".join(line for line in lines if re.match(r"\w*", line)[0] in names)
+    return "".join(line for line in lines if re.split(r"\W", line, maxsplit=1)[0] in names)
 
 
 def parts_of(name: str, known: dict[str, list[str]]) -> list[str]:
@@ -66,7 +66,7 @@ def files(top: pathlib.Path) -> Iterator[str]:
 def folders(names: list[str]) -> list[str]:
     """Returns the folders in which these files' own folders stand: what is moved to the place of a folder changes the
     one above it."""
-    found = set()
+    found: set[str] = set()
     for name in names:
         found.update(str(it) for it in list(pathlib.PurePath(name).parents)[1:-1])
     return sorted(found)

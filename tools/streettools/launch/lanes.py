@@ -77,7 +77,8 @@ def chains(above: dict[str, list[str]], seconds: dict[str, float]) -> dict[str, 
 
 def keys(top: pathlib.Path, known: dict[str, list[str]], names: list[str]) -> dict[str, str]:
     """Returns for each crate, those below it before it, a sum of its sources, of what it stands on, and of the kit."""
-    folder, found = kit.folder(), {}
+    folder = kit.folder()
+    found: dict[str, str] = {}
     for name in names:
         sums = sorted((file, crates.sum_of(top / file)) for file in crates.files_of(top, name))
         text = repr(

@@ -130,7 +130,8 @@ def first_place(given: argparse.Namespace) -> Place:
 
 def again(given: argparse.Namespace) -> str | None:
     """Returns the record that is to happen again."""
-    return given.record if given.resume == "" else given.resume or given.replay
+    record: str | None = given.record if given.resume == "" else given.resume or given.replay
+    return record
 
 
 def is_anywhere(address: str | None) -> bool:

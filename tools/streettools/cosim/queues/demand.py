@@ -102,7 +102,8 @@ class Network:
 
     def driven(self, draw: random.Random, entry: float, first: int) -> Vehicle:
         """Returns a vehicle that comes to a first movement, with its whole way."""
-        places, travels = [first], []
+        places = [first]
+        travels: list[float] = []
         while True:
             onward = self.flows[places[-1]].onward
             if onward is None or draw.random() >= onward.share:
@@ -140,16 +141,18 @@ def route(flows: list[Flow]) -> str:
 
 def demand_of(volumes: Volumes, seed: int, start: float, seconds: float) -> Demand:
     """Draws who comes in a run that begins at a time of day. Each movement and each crossing has draws of its own."""
-    network, vehicles, persons = Network(volumes.flows), [], []
+    network = Network(volumes.flows)
+    vehicles: list[Vehicle] = []
+    persons: list[Person] = []
     for place in network.entries():
         it = volumes.flows[place]
         draw = random.Random(f"{seed}/{it.cabinet}/{it.name}")
         rates = rates_of(volumes, it.profile, it.volume, start, seconds)
         came = list(arrivals(draw, rates, it.headway / it.lanes))
         vehicles.extend(network.driven(draw, at, place) for at in came)
-    for place, it in enumerate(volumes.crossings):
-        draw = random.Random(f"{seed}/{it.cabinet}/ped {it.phase}")
-        rates = rates_of(volumes, it.profile, it.persons, start, seconds)
+    for place, crossing in enumerate(volumes.crossings):
+        draw = random.Random(f"{seed}/{crossing.cabinet}/ped {crossing.phase}")
+        rates = rates_of(volumes, crossing.profile, crossing.persons, start, seconds)
         persons.extend(Person(at, place) for at in arrivals(draw, rates, 0.0))
     vehicles.sort(key=lambda it: it.entry)
     persons.sort()

@@ -50,8 +50,8 @@ class Street:
             self.detectors.setdefault(key, PhaseDetectors(*key)).watch(it, self.lines[place])
             self.by_phase.setdefault(key, []).append(place)
         self.seers = [self.detectors[it.cabinet, it.phase] for it in self.flows]
-        for number, it in enumerate(demand.vehicles):
-            self.sent(it.entry, it.way.flows[0], number, 0)
+        for number, vehicle in enumerate(demand.vehicles):
+            self.sent(vehicle.entry, vehicle.way.flows[0], number, 0)
         self.presses = presses(volumes, demand, steps)
 
     def sent(self, at: float, place: int, vehicle: int, now: int) -> None:

@@ -131,7 +131,7 @@ def person_trips(ran: Ran) -> list[Trip]:
         name, walks = f"ped {it.phase}", ran.signals.walks[it.cabinet, it.phase]
         at = walks.first(person.at)
         delay = (ran.street.steps.seconds if at is None else at) - person.at
-        passages = ()
+        passages: tuple[Passage, ...] = ()
         if at is not None:
             passages = (Passage(it.cabinet, name, it.phase, person.at, at, delay, delay > 0, delay == 0),)
         route = f"{name} {it.cabinet}"

@@ -220,7 +220,10 @@ def volumes_of(document: dict[str, Any]) -> Volumes:
     """Reads a whole file of volumes."""
     given = Given(document, "volumes")
     usual = Usual.of(given, Usual(Saturation(), Detectors(), 0.0, 0.35, None))
-    flows, crossings, idle, numbers = [], [], [], []
+    flows: list[Flow] = []
+    crossings: list[Crossing] = []
+    idle: list[tuple[int, int]] = []
+    numbers: list[int] = []
 
     def cabinet(row: Given) -> None:
         number = row.need("number", int)
