@@ -14,17 +14,20 @@ from ..shared.saying import say
 from ..shared.status import Status
 from ..shared.tables import Tables
 from . import (
+    addresses,
     check,
     explain,
     jsontext,
     live,
     loads,
     names,
+    sending,
     sources,
     toml_text,
     utdf_in,
     utdf_out,
     utdf_text,
+    volumes_text,
     walk,
     writing,
 )
@@ -196,12 +199,22 @@ def do_explain(words: argparse.Namespace) -> int:
     return status
 
 
+def utdf_text_of(path: str) -> str:
+    """Returns the text of a UTDF file; other octets than those of UTF-8, as in names, are replaced."""
+    return jsontext.decoded(sources.content_of(path).removeprefix(b"\xef\xbb\xbf"), replaced=True)
+
+
 def from_utdf(words: argparse.Namespace) -> int:
-    """Writes the sheet of a UTDF file."""
-    text = jsontext.decoded(sources.content_of(words.file).removeprefix(b"\xef\xbb\xbf"), replaced=True)
-    sheet, notes = utdf_in.sheet_of(utdf_text.read(text))
-    street = street_of(sheet)
-    tell(notes + street.notes)
+    """Writes the sheet of UTDF files, and their volumes."""
+    found = utdf_in.imported(utdf_text.read_all((path, utdf_text_of(path)) for path in words.files))
+    street = street_of(found.sheet)
+    tell(found.notes + street.notes)
+    if words.volumes and not found.volumes:
+        raise Refused(f"{', '.join(words.files)}: no record Volume in it, so there is no file of volumes to write")
+    if found.volumes and not words.volumes:
+        say("plan", "its volumes are left out: --volumes FILE writes them, for `./arterial cosim queues`")
+    if words.volumes:
+        write(words.volumes, volumes_text.text(found.volumes))
     write_sheet(words.output, writing.sheet_of(street))
     return Status.DONE
 
@@ -239,20 +252,41 @@ def from_live(words: argparse.Namespace) -> int:
 
 
 def to_utdf(words: argparse.Namespace) -> int:
-    """Writes a street as UTDF."""
+    """Writes a street as UTDF, with its volumes."""
     street = taken(words.file, words.names).street
-    write(words.output, utdf_out.text(street, words.pattern))
+    found, notes = utdf_out.written(street, words.pattern, volumes_text.read(words.volumes) if words.volumes else None)
+    tell(notes)
+    write(words.output, found)
     return Status.DONE
 
 
 def do_loads(words: argparse.Namespace) -> int:
-    """Writes the downloads from one plan to another: as a scenario's loads, or as commands of snmpset."""
+    """Writes the downloads from one plan to another as a scenario's loads; or sends them, or says what it would."""
     old, new = (taken(path).street for path in (words.old, words.new))
     found = loads.between(old, new, words.round, words.flash)
+    if words.only:
+        found = [it for it in found if it["cabinet"] in words.only]
     if words.flash:
         say("plan", "cabinets accept these downloads only in flash (pattern 255)")
-    if words.sets is None:
-        write_scenario(words.output, {"loads": found})
+    if words.sets:
+        return do_sets(words, old, new, found)
+    if words.send or words.by_address:
+        raise Refused("--send and --by-address go with --sets, which says where the devices are")
+    write_scenario(words.output, {"loads": found})
+    return Status.DONE
+
+
+def do_sets(words: argparse.Namespace, old: Street, new: Street, found: list[dict[str, Any]]) -> int:
+    """Says what devices get, and sends it if that is asked for."""
+    loads_here = sending.loads_of(old, new, found, addresses.places_of(words.sets, len(new.scenario["cabinets"])))
+    lines = [line for it in loads_here for line in it.lines()] or ["no value differs"]
+    if not words.send:
+        lines.append("nothing is set: --send reads each device, and then sets it")
+        write(words.output, "\n".join(lines) + "\n")
         return Status.DONE
-    write(words.output, loads.script(new, found, words.id, words.sets, words.community))
+    for it in loads_here:
+        it.where = it.where._replace(host=live.address(it.where.host, words.anywhere))
+    write(words.output, "\n".join(lines) + "\n")
+    for line in sending.send(loads_here, words.community, words.id, words.by_address):
+        print(line, flush=True)
     return Status.DONE

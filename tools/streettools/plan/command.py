@@ -22,6 +22,18 @@ A FILE is a sheet (.toml, .xlsx), a scenario or a field file (.json). docs/PLANS
 Exit status: 0 done, 1 a file can't be read or written, 2 the arguments or a file are invalid, or a check found an
 error.
 """
+LOADS_EPILOG = """examples:
+  ./arterial plan loads old.toml new.toml --round 30                          the loads of a scenario
+  ./arterial plan loads old.toml new.toml --sets 127.0.0.1:10161+             what each device would get
+  ./arterial plan loads old.toml new.toml --sets 127.0.0.1:10161+ --send      reads all devices, then sets them
+  ./arterial plan loads old.toml new.toml --sets 3=127.0.0.1:10163 --only 3 --send
+
+These are the downloads of this bench's cabinets. A real controller doesn't have their objects, and is refused.
+"""
+UTDF_EPILOG = """examples:
+  ./arterial plan from utdf street.csv --volumes street.volumes.toml -o street.toml
+  ./arterial plan from utdf LAYOUT.CSV LANES.CSV PHASING.CSV TIMING.CSV VOLUME.CSV -o street.toml
+"""
 OUTPUT = "where to write (default: standard output)"
 FILE = "a sheet (.toml, .xlsx), a scenario or a field file (.json); - is standard input"
 
@@ -75,7 +87,13 @@ def add_products(parts) -> None:
     part.add_argument(
         "--pattern", type=number(0, 48), default=1, metavar="N", help="which pattern; 0 is free operation (default: 1)"
     )
-    part = add(parts, "loads", actions.do_loads, "write the downloads that bring cabinets from one plan to another")
+    part = add(
+        parts,
+        "loads",
+        actions.do_loads,
+        "write the downloads that bring cabinets from one plan to another, or send them",
+        LOADS_EPILOG,
+    )
     part.add_argument("old", metavar="OLD", help=FILE)
     part.add_argument("new", metavar="NEW", help="the same")
     part.add_argument("--round", type=number(1, 86_400), default=1, help="the round in which they are sent (default: 1)")
@@ -83,16 +101,35 @@ def add_products(parts) -> None:
         "--flash", action="store_true", help="the cabinets are in flash then, so rings and enabled phases may change"
     )
     part.add_argument(
-        "--sets", metavar="HOST", help="write commands of snmpset for this agent instead of a scenario's loads"
+        "--only", type=number(1, 64), action="append", metavar="N", help="only this intersection; may be repeated"
+    )
+    add_sending(part)
+    add_output(part, OUTPUT, metavar="OUTPUT")
+
+
+def add_sending(part: argparse.ArgumentParser) -> None:
+    """Adds the words that bring downloads to devices."""
+    part.add_argument(
+        "--sets",
+        metavar="ADDRESS",
+        action="append",
+        help="where the devices are: HOST:PORT+ counts ports up from intersection 1, as `arterial street --ports`; "
+        "N=HOST:PORT, repeated, is that of intersection N. It prints what each device would get, and sets nothing",
     )
     part.add_argument(
-        "--id",
-        type=number(1, 2_000_000_000),
-        default=1,
-        help="the id of the first download, above all earlier ones (default: 1)",
-    )
-    part.add_argument("--community", default="public", help="the community for --sets (default: public)")
-    add_output(part, OUTPUT, metavar="OUTPUT")
+        "--send", action="store_true", help="with --sets: read each device, refuse one that isn't the intersection's, "
+        "set the values, and read them back",
+    )  # fmt: skip
+    part.add_argument(
+        "--by-address", action="store_true", help="with --send: devices that neither name nor tables tell apart are "
+        "those of their addresses",
+    )  # fmt: skip
+    part.add_argument(
+        "--id", type=number(1, 2_000_000_000), default=1,
+        help="the id of the first download of a device, or the next one that it accepts (default: 1)",
+    )  # fmt: skip
+    part.add_argument("--community", default="public", help="the community for --send (default: public)")
+    part.add_argument("--anywhere", action="store_true", help="let devices be set that are not on this machine")
 
 
 def add_checks(parts) -> None:
@@ -131,9 +168,12 @@ def add_exchange(parts) -> None:
         origins,
         "utdf",
         actions.from_utdf,
-        "write the sheet of a UTDF file of Synchro, version 6 to 8; fields that can't be imported are listed",
+        "write the sheet of UTDF files of Synchro, version 6 to 8, and their volumes; fields that can't be imported "
+        "are listed",
+        UTDF_EPILOG,
     )
-    part.add_argument("file", metavar="FILE", help="the file, comma-separated")
+    part.add_argument("files", metavar="FILE", nargs="+", help="the file, comma-separated; or the files of one street")
+    part.add_argument("--volumes", metavar="FILE", help="where to write the volumes, for `arterial cosim queues`")
     add_output(part, OUTPUT, metavar="OUTPUT")
     part = add(
         origins,
@@ -157,8 +197,9 @@ def add_exchange(parts) -> None:
     text = "write a plan for other software"
     part = parts.add_parser("to", help=text, description=f"{text[:1].upper()}{text[1:]}.")
     aims = part.add_subparsers(dest="aim", metavar="AIM", required=True)
-    part = add(aims, "utdf", actions.to_utdf, "write nodes, phases and a timing plan as UTDF, version 8")
+    part = add(aims, "utdf", actions.to_utdf, "write a street as UTDF, version 8: nodes, links, lanes, a timing plan")
     add_file(part)
+    part.add_argument("--volumes", metavar="FILE", help="the file of volumes of the street (docs/QUEUES.md)")
     part.add_argument("--pattern", type=number(1, 48), default=1, help="the pattern that is the timing plan (default: 1)")
     add_output(part, OUTPUT, metavar="OUTPUT")
 

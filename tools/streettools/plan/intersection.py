@@ -14,10 +14,10 @@ from .started import Read, started, word_of
 NAMES = (
     "name", "note", "standard", "command", "clock", "section", "gain", "lose", "rings", "coordination", "phase",
     "sequence",
-    "pattern", "split", "preempt", "detector", "travel", "conflicts",
+    "pattern", "split", "preempt", "detector", "travel", "distance", "conflicts",
 )  # fmt: skip
 HOMES = {
-    **dict.fromkeys(("standard", "clock", "section", "rings", "travel", "conflicts"), "[[intersection]]"),
+    **dict.fromkeys(("standard", "clock", "section", "rings", "travel", "distance", "conflicts"), "[[intersection]]"),
     **dict.fromkeys(fields.UNIT_FIELDS, "[intersection.coordination]"),
     **dict.fromkeys((*fields.PHASE_FIELDS, *fields.OPTIONS), "[intersection.phase]"),
     **dict.fromkeys(("speed", "grade", "crossing", "width"), "[intersection.phase]"),
@@ -119,6 +119,7 @@ def read(it: Given) -> tuple[Read, dict]:
     found.names.name = it.take("name", one_line, "")
     found.names.note = it.take("note", given.text, "")
     found.names.travel = it.take("travel", given.travel)
+    found.names.distance = it.take("distance", given.measure)
     found.names.conflicts = it.take("conflicts", conflicts.read, [])
     unit = it.below("coordination")
     unit.allow(fields.UNIT_FIELDS)

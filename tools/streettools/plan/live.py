@@ -51,8 +51,12 @@ class Agent:
 
     def next_of(self, asked: list[Name]) -> Reply:
         """Returns the answer to a GetNext with some names; Unreadable where none comes."""
+        return self.ask(GET_NEXT, [(name, None) for name in asked])
+
+    def ask(self, kind: int, bindings: list[tuple[Name, int | bytes | None]]) -> Reply:
+        """Returns the answer to a question, or to a Set; Unreadable where none comes."""
         self.number += 1
-        octets = message(GET_NEXT, self.number, [(name, None) for name in asked], self.community)
+        octets = message(kind, self.number, bindings, self.community)
         for _ in range(TRIES):
             try:
                 self.socket.send(octets)

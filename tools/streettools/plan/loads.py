@@ -1,13 +1,6 @@
-"""The downloads that bring cabinets from one plan to another, each of which keeps the rules; and the SNMP Sets that
-carry them."""
+"""The downloads that bring cabinets from one plan to another, each of which keeps the rules."""
 
-import shlex
-from collections.abc import Iterator
-from typing import Any
-
-from ..shared.ber import Arcs
 from ..shared.fault import Fault
-from ..shared.oids import BEGIN, FINISH, ID, PART, TOTAL, dotted, object_of
 from ..shared.tables import Cell, Tables
 from . import rules
 from ..shared.cells import differing, tables_of, value, written
@@ -99,37 +92,3 @@ def between(old: Street, new: Street, round_: int, flash: bool) -> list[dict]:
     return found
 
 
-Binding = tuple[Arcs, int | str]
-"""The name of an object and its new value: a number, or octets as hexadecimal digits."""
-
-
-def command(host: str, community: str, bindings: list[Binding]) -> str:
-    """Returns the command of snmpset, as a shell reads it, that sets some objects."""
-    words = ["snmpset", "-v1", "-c", community, host]
-    for name, new in bindings:
-        words += [dotted(name), "x" if isinstance(new, str) else "i", str(new)]
-    return shlex.join(words)
-
-
-def sets(load: dict[str, Any], number: int, host: str, community: str) -> Iterator[str]:
-    """Yields the commands of snmpset that carry a download with this id: begin, parts, the total upon which the tables
-    are tested, finish."""
-    cells = load["cells"]
-    parts = [cells[at : at + CELLS_OF_A_PART] for at in range(0, len(cells), CELLS_OF_A_PART)]
-    messages: list[list[Binding]] = [[(BEGIN, number)]]
-    for count, part in enumerate(parts, 1):
-        messages.append([(ID, number), (PART, count), *((object_of(tuple(cell)), new) for *cell, new in part)])
-    messages += [[(ID, number), (TOTAL, len(parts))], [(ID, number), (FINISH, 1)]]
-    for bindings in messages:
-        yield command(host, community, bindings)
-
-
-def script(new: Street, found: list[dict], first: int, host: str, community: str) -> str:
-    """Returns the shell script that carries downloads, numbered from `first`, and ends where one of them fails."""
-    lines = ["set -e"]
-    for number, load in enumerate(found, first):
-        called = " ".join(new.names.called(load["cabinet"]).split())
-        shown = "".join(sign for sign in called if sign.isprintable())
-        lines.append(f"# download {number}, {shown}: {len(load['cells'])} cells")
-        lines += sets(load, number, host, community)
-    return "\n".join(lines) + "\n"

@@ -41,6 +41,7 @@ class Intersection:
     detectors: dict[int, str] = field(default_factory=dict)
     partners: list[int] = field(default_factory=list)
     travel: float | None = None
+    distance: float | None = None
     conflicts: list[list[int]] = field(default_factory=list)
 
     def phase(self, number: int) -> Phase:
@@ -127,7 +128,7 @@ def is_card(value: object) -> bool:
 def taken(found: Intersection) -> Intersection:
     """Returns an intersection whose names are in one line each. What is no name, no measure or no phase is refused."""
     phases = {number: replace(it, name=one_line(it.name)) for number, it in found.phases.items()}
-    measures = [found.travel, *(value for it in phases.values() for value in lengths(it))]
+    measures = [found.travel, found.distance, *(value for it in phases.values() for value in lengths(it))]
     if not all(map(is_measure, measures)):
         raise Wrong(f"intersection {found.name!r} has a measure that isn't a number")
     if any(it.kind not in KINDS for it in phases.values()):

@@ -1,26 +1,20 @@
-"""A UTDF file as a sheet: rings by BRP, times, recalls, splits and offsets, names and speeds of streets. What isn't
-taken is named."""
+"""A UTDF file as a sheet: rings by BRP, times, recalls, splits and offsets, names and speeds of streets, and as a file
+of volumes. What isn't taken is named."""
 
-import re
-from typing import Any
+from typing import Any, NamedTuple
 
-from .utdf_node import WAYS, Node
-from .utdf_plan import pair_of, pattern, plans
-from .utdf_text import Utdf, number
+from ..shared.cells import tables_of
+from . import rules
+from .reading import read_sheet, street_of
+from .utdf_left import notes, read_numbers
+from .utdf_links import LANES, WAYS, Links
+from .utdf_node import Node
+from .utdf_plan import is_free, left_out, pair_of, pattern, plans
+from .utdf_text import Utdf
+from .utdf_volumes import PROTECTED, document, tidy
 
-COMPUTED = {
-    "Start",
-    "End",
-    "Yield",
-    "Yield170",
-    "LocalStart",
-    "LocalYield",
-    "LocalYield170",
-    "ActGreen",
-    "MinSplit",
-    "BRP",
-}
-"""What Synchro computes of the others."""
+PATTERN_RULES = (14, 15, 16, 17, 18, 19)
+UNCOORDINATED = "it is semi-actuated and not coordinated (control type 2)"
 
 TENTHS = {"VehExt": "passage", "Yellow": "yellow", "AllRed": "red_clear", "MinGap": "min_gap"}
 SECONDS = {
@@ -28,12 +22,7 @@ SECONDS = {
     "TimeBeforeReduce": "time_before_reduction",
     "TimeToReduce": "time_to_reduce",
 }  # fmt: skip
-DETECTORS = {"DetectPhase1", "DetectDelay1", "DetectExtend1"}
 RECALLS = {0: "none", 1: "minimum", 2: "pedestrian", 3: "maximum"}
-TIMEPLAN = {"Control Type", "Cycle Length", "Referenced To", "Reference Phase", "Offset"}
-LANES = re.compile("(" + "|".join(WAYS) + ")[LTRU]2?")
-"""Lane groups, as EBT."""
-
 TURNS = {"L": "left", "T": "", "R": "right", "U": "U-turn"}
 
 
@@ -41,7 +30,7 @@ def rings(node: Node) -> list[str]:
     """Returns the rings as a sheet draws them, by barrier, ring and position."""
     places: dict[tuple[int, int], list[tuple[int, int]]] = {}
     for phase in node.used:
-        brp = int(node.at("BRP", phase) or 0)
+        brp = node.whole_at("BRP", phase) or 0
         barrier, ring, position = brp // 100, brp // 10 % 10, brp % 10
         if ring not in (1, 2) or not barrier:
             node.note(
@@ -63,14 +52,15 @@ def rings(node: Node) -> list[str]:
 def movements(node: Node) -> dict[int, list[str]]:
     """Returns the lane groups that each phase serves protected, as EBT."""
     found: dict[int, list[str]] = {}
-    for record in ("Phase1", "Phase2", "Phase3", "Phase4"):
-        for lanes, phase in node.lanes.get(record, {}).items():
-            if LANES.fullmatch(lanes) and number(phase):
-                found.setdefault(int(number(phase)), []).append(lanes)
+    for record in PROTECTED:
+        for lanes in node.lanes.get(record, {}):
+            phase = node.whole_lane(record, lanes) if LANES.fullmatch(lanes) else None
+            if phase:
+                found.setdefault(phase, []).append(lanes)
     return found
 
 
-def about_phases(node: Node, rows: dict[str, dict]) -> None:
+def about_phases(node: Node, rows: dict[str, dict[str, Any]]) -> None:
     """Says names and speeds of the phases."""
     served = movements(node)
     for phase in node.used:
@@ -78,23 +68,24 @@ def about_phases(node: Node, rows: dict[str, dict]) -> None:
         if not lanes:
             continue
         way, turn = lanes[0][:2], lanes[0][2]
-        street = node.links.get("Name", {}).get(way, "")
+        street = node.links.name(node.number, way)
         rows[str(phase)]["name"] = " ".join(filter(None, (street, WAYS[way], TURNS[turn])))
-        speed = number(node.links.get("Speed", {}).get(way, ""))
+        speed = node.links.speed(node.number, way)
         if turn == "T" and speed:
-            rows[str(phase)]["speed"] = speed
+            rows[str(phase)]["speed"] = tidy(speed)
 
 
-def detectors(node: Node) -> dict[str, dict]:
+def detectors(node: Node) -> dict[str, dict[str, Any]]:
     """Returns a detector for each lane group that has one, numbered in the order of the file: the phase that it calls,
     its delay and extension."""
-    found: dict[str, dict] = {}
-    for lanes, phase in node.lanes.get("DetectPhase1", {}).items():
-        if not LANES.fullmatch(lanes) or not number(phase):
+    found: dict[str, dict[str, Any]] = {}
+    for lanes in node.lanes.get("DetectPhase1", {}):
+        phase = node.whole_lane("DetectPhase1", lanes) if LANES.fullmatch(lanes) else None
+        if not phase:
             continue
-        row: dict[str, Any] = {"name": lanes, "phase": int(number(phase))}
+        row: dict[str, Any] = {"name": lanes, "phase": phase}
         for record, name in (("DetectDelay1", "delay"), ("DetectExtend1", "extend")):
-            value = number(node.lanes.get(record, {}).get(lanes, ""))
+            value = node.lane(record, lanes)
             if value:
                 row[name] = node.whole(value, record, lanes)
         found[str(len(found) + 1)] = row
@@ -118,21 +109,29 @@ def phase_row(node: Node, phase: int) -> dict[str, Any]:
                 )
     row.setdefault("walk", 0)
     row.setdefault("ped_clear", 0)
-    recall = node.at("Recall", phase)
-    if recall is not None and recall not in RECALLS:
-        node.note(f"recall {recall:g} of phase {phase} is not known, and taken as none")
-    row["recall"] = RECALLS.get(recall or 0, "none")
+    recall = node.at("Recall", phase) or 0
+    if recall not in RECALLS:
+        entry = node.phases["Recall"][f"D{phase}"]
+        node.utdf.fault(entry, f"recall {recall:g} is not known: 0 none, 1 minimum, 2 pedestrian, 3 maximum")
+    row["recall"] = RECALLS.get(int(recall), "none")
     row["dual_entry"] = bool(node.at("DualEntry", phase))
     return row
 
 
-def left_out(node: Node) -> None:
-    """Names the records that aren't taken."""
-    known = {"timeplans": TIMEPLAN, "phases": {*COMPUTED, *SECONDS, *TENTHS, "Recall", "DualEntry"}}
-    for section, table in (("timeplans", node.plan), ("phases", node.phases)):
-        names = [name for name in table if name not in known[section] and not re.fullmatch(r"Node \d+", name)]
-        if names:
-            node.note(f"not taken from [{section.capitalize()}]: " + ", ".join(names))
+def patterns_of(node: Node, drawn: list[str], sheet: dict[str, Any]) -> dict[str, Any]:
+    """Returns the patterns of an intersection, and which is in command. That of a semi-actuated one is taken where it
+    keeps the rules, and isn't in command: it runs free."""
+    laid = pattern(node, drawn)
+    found = {"1": laid} if laid else plans(node, drawn)
+    if not laid or not is_free(node):
+        return {"pattern": found, "command": 1} if found else {}
+    street, faults = read_sheet({"intersection": [{**sheet, "pattern": found}]})
+    tables = tables_of(street.scenario["cabinets"][0])
+    if faults or any(it.rule in PATTERN_RULES for it in rules.broken(tables)):
+        left_out(node, f"{UNCOORDINATED}, and its splits keep no pattern's rules")
+        return {}
+    node.note(f"{UNCOORDINATED}: it runs free; its timing plan is pattern 1")
+    return {"pattern": found}
 
 
 def intersection(node: Node) -> dict[str, Any]:
@@ -144,34 +143,54 @@ def intersection(node: Node) -> dict[str, Any]:
     for phase in node.used:
         rows[str(phase)]["startup"] = "green" if phase in pair or (not pair and phase in (2, 6)) else "red"
     sheet: dict[str, Any] = {"name": node.name(), "rings": drawn, "phase": rows}
-    laid = pattern(node, drawn)
-    patterns = {"1": laid} if laid else plans(node)
     called = detectors(node)
-    sheet |= {"detector": called} if called else {}
-    if patterns:
-        sheet |= {"pattern": patterns, "command": 1}
-    left_out(node)
-    return sheet
+    return sheet | patterns_of(node, drawn, sheet) | ({"detector": called} if called else {})
 
 
-def sheet_of(utdf: Utdf) -> tuple[dict, list[str]]:
+def travels(nodes: list[Node], rows: list[dict[str, Any]]) -> None:
+    """Says how long vehicles drive from each intersection to the next one, and how far."""
+    missing = []
+    for before, after, row in zip(nodes, nodes[1:], rows):
+        found = before.links.between(before.number, after.number)
+        if found is None:
+            missing.append(f"{before.number} to {after.number}")
+            continue
+        if found.seconds:
+            row["travel"] = tidy(found.seconds)
+        if found.distance:
+            row["distance"] = tidy(found.distance)
+    if missing:
+        nodes[0].utdf.notes.append(f"no link leads from node {', '.join(missing)}, so there is no travel")
+
+
+class Imported(NamedTuple):
+    """What a UTDF file comes to: a sheet, a file of volumes (empty where it has none), and what wasn't taken."""
+
+    sheet: dict[str, Any]
+    volumes: dict[str, Any]
+    notes: list[str]
+
+
+def imported(utdf: Utdf) -> Imported:
+    """Returns what a UTDF file comes to; Unreadable where fields can't be read."""
+    read_numbers(utdf)
+    links = Links(utdf)
+    numbers = dict.fromkeys(str(it.get("INTID", "")) for it in utdf.records("phases"))
+    nodes = [node for node in (Node(utdf, it, links) for it in numbers if it) if node.used]
+    links.ends = [it.number for it in nodes]
+    sheet: dict[str, Any] = {"units": "metric"} if links.metric else {}
+    rows = [intersection(it) for it in nodes]
+    travels(nodes, rows)
+    sheet["intersection"] = rows
+    utdf.end()
+    cabinets = street_of(sheet).scenario["cabinets"] if rows else []
+    volumes = document(nodes, links, utdf, "", [list(tables_of(it).enabled()) for it in cabinets])
+    utdf.end()
+    found = [note for it in nodes for note in it.all_notes()] + utdf.notes + notes(utdf, links, bool(volumes))
+    return Imported(sheet, volumes, found)
+
+
+def sheet_of(utdf: Utdf) -> tuple[dict[str, Any], list[str]]:
     """Returns a UTDF file as a sheet, and what wasn't taken as it stands."""
-    nodes = [Node(utdf, it) for it in dict.fromkeys(it.get("INTID", "") for it in utdf.records("phases")) if it]
-    nodes = [it for it in nodes if it.used]
-    sheet: dict[str, Any] = {"units": "metric"} if number(utdf.setting("Metric")) == 1 else {}
-    sheet["intersection"] = [intersection(it) for it in nodes]
-    notes = [note for it in nodes for note in it.all_notes()]
-    unknown = [
-        name
-        for name in utdf.sections
-        if name not in ("network", "nodes", "links", "lanes", "timeplans", "phases", "plans")
-    ]
-    notes += [f"section [{name}] is not known" for name in unknown]
-    notes += [f"not understood: {it}" for it in dict.fromkeys(utdf.strange)]
-    taken = {"links": {"Name", "Speed"}, "lanes": {f"Phase{it}" for it in range(1, 5)} | DETECTORS}
-    for section, known in taken.items():
-        names = dict.fromkeys(it.get("RECORDNAME", "") for it in utdf.records(section))
-        left = [name for name in names if name and name not in known]
-        if left:
-            notes.append(f"not taken from [{section.capitalize()}]: " + ", ".join(left))
-    return sheet, notes
+    found = imported(utdf)
+    return found.sheet, found.notes

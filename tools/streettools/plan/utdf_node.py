@@ -3,13 +3,8 @@
 import math
 from dataclasses import dataclass, field
 
-from .utdf_text import Utdf, number
-
-WAYS = {
-    "NB": "northbound", "SB": "southbound", "EB": "eastbound", "WB": "westbound", "NE": "northeastbound",
-    "NW": "northwestbound",
-    "SE": "southeastbound", "SW": "southwestbound",
-}  # fmt: skip
+from .utdf_links import WAYS, Links
+from .utdf_text import Utdf
 
 
 @dataclass
@@ -18,12 +13,14 @@ class Node:
 
     utdf: Utdf
     number: str
+    links: Links
     notes: list[str] = field(default_factory=list)
     rounded: dict[str, list[str]] = field(default_factory=dict)
 
     def __post_init__(self) -> None:
-        self.phases, self.plan = (self.utdf.table(section, self.number) for section in ("phases", "timeplans"))
-        self.links, self.lanes = (self.utdf.table(section, self.number) for section in ("links", "lanes"))
+        self.phases, self.plan, self.lanes = (
+            self.utdf.table(section, self.number) for section in ("phases", "timeplans", "lanes")
+        )
         self.used = [
             it for it in range(1, 17) if self.at("MinGreen", it) is not None or self.at("MaxGreen", it) is not None
         ]
@@ -34,11 +31,27 @@ class Node:
 
     def at(self, record: str, phase: int) -> float | None:
         """Returns a number of a phase."""
-        return number(self.phases.get(record, {}).get(f"D{phase}", ""))
+        return self.utdf.number(self.phases.get(record, {}).get(f"D{phase}"))
+
+    def whole_at(self, record: str, phase: int) -> int | None:
+        """Returns a whole number of a phase."""
+        return self.utdf.whole(self.phases.get(record, {}).get(f"D{phase}"))
+
+    def lane(self, record: str, lanes: str) -> float | None:
+        """Returns a number of a lane group."""
+        return self.utdf.number(self.lanes.get(record, {}).get(lanes))
+
+    def whole_lane(self, record: str, lanes: str) -> int | None:
+        """Returns a whole number of a lane group."""
+        return self.utdf.whole(self.lanes.get(record, {}).get(lanes))
 
     def setting(self, record: str) -> float | None:
         """Returns a number of the timing plan."""
-        return number(self.plan.get(record, {}).get("DATA", ""))
+        return self.utdf.number(self.plan.get(record, {}).get("DATA"))
+
+    def code(self, record: str) -> int | None:
+        """Returns a whole number of the timing plan."""
+        return self.utdf.whole(self.plan.get(record, {}).get("DATA"))
 
     def whole(self, value: float, what: str, whose: str) -> int:
         """Returns whole seconds; what isn't whole is rounded up, and named."""
@@ -56,10 +69,7 @@ class Node:
 
     def name(self) -> str:
         """Returns what the intersection is called: its streets, its description, or its number."""
-        words, speeds = self.links.get("Name", {}), self.links.get("Speed", {})
-        ways = sorted((way for way in WAYS if words.get(way)), key=lambda way: -(number(speeds.get(way, "")) or 0))
-        streets = list(dict.fromkeys(words[way] for way in ways))
-        described = next(
-            (it.get("DESCRIPTION", "") for it in self.utdf.records("nodes") if it.get("INTID") == self.number), ""
-        )
-        return described or " & ".join(streets[:2]) or f"node {self.number}"
+        speeds = {way: self.links.speed(self.number, way) or 0 for way in WAYS}
+        ways = sorted((way for way in WAYS if self.links.name(self.number, way)), key=lambda way: -speeds[way])
+        streets = list(dict.fromkeys(self.links.name(self.number, way) for way in ways))
+        return self.links.description(self.number) or " & ".join(streets[:2]) or f"node {self.number}"

@@ -1,24 +1,22 @@
-"""A street as UTDF, version 8: its nodes, and the pages of phases and timing plans that Synchro reads."""
+"""A street as UTDF, version 8: its nodes, links, lane groups, timing plans and phases."""
 
 import csv
 import io
+from typing import Any
 
+from ..cosim.queues.volumes import Volumes
+from ..shared.cells import tables_of, value
 from ..shared.tables import Tables
 from . import drawing, fields
-from ..shared.cells import tables_of, value
 from .layout import Layout
 from .names import Intersection
 from .reading import Street
+from .utdf_lanes_out import Writing, lane_rows, link_rows, shown
 
 DIRECTIONS = [f"D{phase}" for phase in range(1, 17)]
 RECALLS = {"none": 0, "minimum": 1, "pedestrian": 2, "maximum": 3}
-ACTUATED, COORDINATED = 1, 3
+ACTUATED, SEMI_ACTUATED, COORDINATED = 1, 2, 3
 BEGIN_OF_GREEN = 0
-
-
-def shown(number: float) -> str:
-    """Returns a number as UTDF has it."""
-    return f"{number:g}"
 
 
 def recall(options: int) -> int:
@@ -68,8 +66,8 @@ def of_phases(tables: Tables, known: Intersection, pattern: int) -> dict[str, di
     }  # fmt: skip
 
 
-def of_plan(tables: Tables, known: Intersection, pattern: int) -> dict[str, str]:
-    """Returns the records of a node's timing plan."""
+def of_plan(tables: Tables, known: Intersection, pattern: int, runs: bool) -> dict[str, str]:
+    """Returns the records of a node's timing plan. `runs` tells whether a pattern is commanded at all."""
     if pattern not in tables.patterns():
         return {"Control Type": str(ACTUATED)}
     laid = Layout(tables, pattern)
@@ -78,40 +76,80 @@ def of_plan(tables: Tables, known: Intersection, pattern: int) -> dict[str, str]
     if value(tables, ("unit", 8)) == 2:
         offset = (offset - laid.window / 10) % (laid.cycle / 10)
     return {
-        "Control Type": str(COORDINATED), "Cycle Length": shown(laid.cycle / 10), "Referenced To": str(BEGIN_OF_GREEN),
+        "Control Type": str(COORDINATED if runs else SEMI_ACTUATED), "Cycle Length": shown(laid.cycle / 10),
+        "Referenced To": str(BEGIN_OF_GREEN),
         "Reference Phase": str(sum(it * scale for it, scale in zip(pair, (100, 1), strict=False))),
         "Offset": shown(offset),
     }  # fmt: skip
 
 
-def text(street: Street, pattern: int) -> str:
-    """Returns the text of a UTDF file."""
+def is_pattern(command: int) -> bool:
+    """Tells whether a command is that of a pattern."""
+    return 1 <= command <= 48
+
+
+def runs_patterns(street: Street, cabinet: dict[str, Any]) -> bool:
+    """Tells whether a cabinet is commanded a pattern, at the start or by the schedule."""
+    schedule = street.scenario.get("master", {}).get("schedule", [])
+    section = cabinet.get("section", 1)
+    return is_pattern(cabinet.get("pattern", 0)) or any(
+        is_pattern(it["pattern"]) for it in schedule if it["section"] == section
+    )
+
+
+def node_rows(street: Street) -> list[list[Any]]:
+    """Returns the rows of the nodes, one behind the other by their distances."""
+    rows: list[list[Any]] = [["INTID", "TYPE", "X", "Y", "Z", "DESCRIPTION"]]
+    at = 0.0
+    for number in range(1, len(street.scenario["cabinets"]) + 1):
+        known = street.names.intersection(number)
+        rows.append([number, 0, shown(at), 0, 0, known.name])
+        at += known.distance or 1000
+    return rows
+
+
+def plan_rows(street: Street, pattern: int, notes: list[str]) -> list[list[Any]]:
+    """Returns the rows of the timing plans."""
+    rows: list[list[Any]] = [["RECORDNAME", "INTID", "DATA"]]
+    for number, cabinet in enumerate(street.scenario["cabinets"], 1):
+        tables, runs = tables_of(cabinet), runs_patterns(street, cabinet)
+        if pattern in tables.patterns() and not runs:
+            notes.append(f"intersection {number} is commanded no pattern, so it is semi-actuated (control type 2)")
+        found = of_plan(tables, street.names.intersection(number), pattern, runs)
+        rows += [[record, number, data] for record, data in found.items()]
+    return rows
+
+
+def phase_rows(street: Street, pattern: int, writing: Writing) -> list[list[Any]]:
+    """Returns the rows of the phases."""
+    rows: list[list[Any]] = [["RECORDNAME", "INTID", *DIRECTIONS]]
+    for number, cabinet in enumerate(street.scenario["cabinets"], 1):
+        found = of_phases(tables_of(cabinet), street.names.intersection(number), pattern)
+        persons = writing.groups[number].lanes.get("PedCalls", {})
+        if persons:
+            found["PedCalls"] = {int(phase): it for phase, it in persons.items()}
+        for record, phases in found.items():
+            rows.append([record, number, *(phases.get(phase, "") for phase in range(1, 17))])
+    return rows
+
+
+def written(street: Street, pattern: int, volumes: Volumes | None = None) -> tuple[str, list[str]]:
+    """Returns the text of a UTDF file, and what isn't in it."""
     out = io.StringIO()
     lines = csv.writer(out, lineterminator="\r\n")
-    tables = [tables_of(it) for it in street.scenario["cabinets"]]
-    numbered = [(number, it, street.names.intersection(number)) for number, it in enumerate(tables, 1)]
-    metric = int(street.names.units == "metric")
-    for row in (
-        ["[Network]"],
-        ["Network Settings"],
-        ["RECORDNAME", "DATA"],
-        ["UTDFVERSION", "8"],
-        ["Metric", metric],
-        [],
-    ):
-        lines.writerow(row)
-    for row in (["[Nodes]"], ["Node Data"], ["INTID", "TYPE", "X", "Y", "Z", "DESCRIPTION"]):
-        lines.writerow(row)
-    for number, _, known in numbered:
-        lines.writerow([number, 0, 1000 * number, 0, 0, known.name])
-    for row in ([], ["[Timeplans]"], ["Timing Plan Settings"], ["RECORDNAME", "INTID", "DATA"]):
-        lines.writerow(row)
-    for number, it, known in numbered:
-        for record, data in of_plan(it, known, pattern).items():
-            lines.writerow([record, number, data])
-    for row in ([], ["[Phases]"], ["Phasing Data"], ["RECORDNAME", "INTID", *DIRECTIONS]):
-        lines.writerow(row)
-    for number, it, known in numbered:
-        for record, phases in of_phases(it, known, pattern).items():
-            lines.writerow([record, number, *(phases.get(phase, "") for phase in range(1, 17))])
-    return out.getvalue()
+    writing = Writing(street, volumes)
+    notes = writing.notes
+    network = [["RECORDNAME", "DATA"], ["UTDFVERSION", "8"], ["Metric", int(street.names.units == "metric")]]
+    for title, second, rows in (
+        ("Network", "Network Settings", network), ("Nodes", "Node Data", node_rows(street)),
+        ("Links", "Link Data", link_rows(writing)), ("Lanes", "Lane Group Data", lane_rows(writing)),
+        ("Timeplans", "Timing Plan Settings", plan_rows(street, pattern, notes)),
+        ("Phases", "Phasing Data", phase_rows(street, pattern, writing)),
+    ):  # fmt: skip
+        lines.writerows([[f"[{title}]"], [second], *rows, []])
+    return out.getvalue(), notes
+
+
+def text(street: Street, pattern: int, volumes: Volumes | None = None) -> str:
+    """Returns the text of a UTDF file."""
+    return written(street, pattern, volumes)[0]

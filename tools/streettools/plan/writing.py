@@ -172,7 +172,10 @@ def said(base: str, tables: Tables, known: names.Intersection, drawn: drawing.Dr
 def intersection_sheet(cabinet: dict[str, Any], known: names.Intersection) -> dict[str, Any]:
     """Returns a cabinet of a scenario as an intersection of a sheet."""
     tables, base = tables_of(cabinet), cabinet.get("base", "std8")
-    about = (("name", known.name), ("note", known.note), ("travel", known.travel), ("conflicts", known.conflicts))
+    about = (
+        ("name", known.name), ("note", known.note), ("travel", known.travel), ("distance", known.distance),
+        ("conflicts", known.conflicts),
+    )  # fmt: skip
     head: dict[str, Any] = {name: it for name, it in about if it}
     for name, show in (
         ("pattern", given.command_word),

@@ -61,11 +61,24 @@ def asked_for(given: argparse.Namespace, program: pathlib.Path) -> tuple[dict[st
     return USUAL, []
 
 
+def names_of(scenario: pathlib.Path, count: int) -> dict[int, str]:
+    """Returns the names of the intersections, where a file with names is beside the scenario."""
+    from ..plan import names  # takes a while
+
+    file = names.beside(scenario)
+    if not file.is_file():
+        return {}
+    found = names.read(file.read_text(encoding="utf-8"))
+    return {number: found.intersection(number).name for number in range(1, count + 1)}
+
+
 def street_of(given: argparse.Namespace, hearers: list[Hearer]) -> tuple[Street, list[bytes]]:
     """Returns the street that the words ask for, and what is to happen again in it."""
     program, is_step = answering(given.program, say), words.is_step(given)
     scenario, requests = asked_for(given, program)
     street = Street(str(program), scenario, Pace(0.0 if is_step else given.speed), hearers)
+    if given.scenario:
+        street.called = names_of(pathlib.Path(given.scenario), len(street.scenario["cabinets"]))
     if is_step:
         street.after_message = words.USUAL_STEP if given.ticks_per_message is None else given.ticks_per_message
     return street, requests

@@ -63,6 +63,8 @@ class Street:
         self.scenario: dict[str, Any] = scenario | {"rounds": rounds_for(scenario)}
         self.pace = pace
         self.hearers = hearers
+        self.called: dict[int, str] = {}
+        """The names of intersections, by their numbers."""
         self.after_message = 0
         """How many ticks go by after each datagram."""
         self.stops_at_end = False
@@ -85,6 +87,10 @@ class Street:
         await session.open()
         self.session = session
         self.pace.restart()
+
+    def name_of(self, cabinet: int) -> str:
+        """Returns what a cabinet is called: by its intersection, or by its number."""
+        return self.called.get(cabinet) or f"cabinet {cabinet}"
 
     def community(self) -> bytes:
         """Returns the community of the cabinets' messages."""

@@ -101,20 +101,20 @@ def test_what_can_not_be_taken_gets_a_line_and_a_status(words, status, tmp_path)
     assert ran.stderr or words[-1].endswith(".xlsx")
 
 
-def test_loads_are_written_for_a_scenario_and_for_snmp(tmp_path):
-    """The cells that differ, in the round that is said; or Sets for an agent."""
+def test_loads_are_written_for_a_scenario_or_said_in_words(tmp_path):
+    """The cells that differ, in the round that is said; or what a device would get. Nothing is asked of it."""
     old, new = tmp_path / "old.json", tmp_path / "new.json"
     old.write_text('{"version":1,"rounds":9,"ticks":10,"cabinets":[{}]}')
     new.write_text('{"version":1,"rounds":9,"ticks":10,"cabinets":[{"cells":[["phase",2,8,43]]}]}')
     assert json.loads(plan("loads", old, new, "--round", "3").stdout) == {
         "loads": [{"round": 3, "cabinet": 1, "cells": [["phase", 2, 8, 43]]}]
     }
-    assert (
-        plan("loads", old, new, "--sets", "127.0.0.1:10161", "--id", "5").stdout.count(
-            b"snmpset -v1 -c public 127.0.0.1:10161"
-        )
-        == 4
-    )
+    ran = plan("loads", old, new, "--sets", "127.0.0.1:10161")
+    assert ran.returncode == 0 and ran.stdout.splitlines() == [
+        b"intersection 1 (cabinet 1) at 127.0.0.1:10161: 1 download, 1 value to change",
+        b"  phase 2, yellow: 4.0 to 4.3",
+        b"nothing is set: --send reads each device, and then sets it",
+    ]
 
 
 WITH_COMMENTS = """\

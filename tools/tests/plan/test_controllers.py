@@ -3,7 +3,6 @@
 import contextlib
 import json
 import re
-import shutil
 import signal
 import socket
 import subprocess
@@ -199,18 +198,15 @@ def test_a_live_cabinet_is_walked_over(program):
         assert not differing(walked(port), due)
 
 
-def test_the_commands_of_a_download_load_a_live_cabinet(program, tmp_path):
-    """`plan loads --sets` writes what a shell runs; the cabinet then answers with the new values."""
-    if shutil.which("snmpset") is None:
-        pytest.skip("no snmpset")
+def test_a_download_is_sent_to_a_live_cabinet_and_read_back(program, tmp_path):
+    """`plan loads --sets --send`; the cabinet then answers with the new values."""
     old, new = tmp_path / "old.json", tmp_path / "new.json"
     cells = [["phase", 2, 8, 43], ["sequence", 2, 1, "02010304"], ["sequence", 2, 2, "06050708"], ["pattern", 1, 3, 20],
              ["unit", 5, 900], ["preempt", 1, 13, "0206"], ["split", 3, 5, 4, 4]]  # fmt: skip
     old.write_text('{"version":1,"rounds":9,"ticks":10,"cabinets":[{}]}')
     new.write_text(json.dumps({"version": 1, "rounds": 9, "ticks": 10, "cabinets": [{"cells": cells}]}))
     with cabinet(program) as port:
-        commands = plan("loads", old, new, "--sets", f"127.0.0.1:{port}").stdout.replace(b"snmpset ", b"snmpset -t 20 ")
-        ran = subprocess.run(["sh"], input=commands, capture_output=True, timeout=SECONDS)
+        ran = plan("loads", old, new, "--sets", f"127.0.0.1:{port}", "--send")
         assert ran.returncode == 0, ran.stderr
         agent = live.Agent("127.0.0.1", port, "public")
         agent.socket.settimeout(SECONDS)

@@ -61,7 +61,8 @@ class Onward:
 
 @dataclass(frozen=True)
 class Flow:
-    """A movement of an approach: its phase, its volume, its lanes, what sees it, where it goes on."""
+    """A movement of an approach: its phase, its volume, its lanes, what sees it, where it goes on. `permitted` are
+    phases in which it may turn after it yields; they are kept for UTDF, and not simulated."""
 
     cabinet: int
     name: str
@@ -74,6 +75,7 @@ class Flow:
     detectors: Detectors = field(default_factory=Detectors)
     onward: Onward | None = None
     profile: str | None = None
+    permitted: tuple[int, ...] = ()
 
 
 @dataclass(frozen=True)
@@ -198,6 +200,7 @@ def flow_of(given: Given, cabinet: int, around: Usual) -> Flow:
         usual.detectors,
         onward_of(given, usual.dispersion),
         usual.profile,
+        tuple(given.numbers("permitted", 16)),
     )
     given.end()
     return found

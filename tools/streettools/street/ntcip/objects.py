@@ -110,7 +110,6 @@ def scalars() -> dict[Arcs, Read]:
         SYSTEM + (1, 0): text(b"arterial, a simulated signal cabinet"),
         SYSTEM + (2, 0): Field(NAME, name_content(OWN)),
         SYSTEM + (4, 0): text(b""),
-        SYSTEM + (5, 0): text(b"cabinet"),
         SYSTEM + (6, 0): text(b""),
         SYSTEM + (7, 0): whole(72),
         GLOBAL + (1, 1, 0): whole(0),
@@ -127,6 +126,7 @@ def scalars() -> dict[Arcs, Read]:
         ASC + (7, 2, 0): whole(16),
     }
     made = {name: constant(value) for name, value in words.items()}
+    made[SYSTEM + (5, 0)] = kept(lambda front: text(front.street.name_of(front.cabinet).encode()))
     made |= {SYSTEM + (3, 0): up_time, GLOBAL_TIME: global_time, ASC + (3, 6, 0): flash_status}
     made |= {ASC + (4, 11, 0): free_status, ASC + (4, 12, 0): cycle_status, ASC + (4, 13, 0): sync_status}
     made[TRANSACTION] = kept(lambda front: whole(front.state))
