@@ -140,6 +140,16 @@ look) [ -f "$tools/streettools/look/command.py" ] && look "$@" ;;
 *) [ -f "$tools/streettools/$1/command.py" ] && python "$@" ;;
 esac
 
+# Puts the scenario of a timing sheet on standard input.
+run_sheet() {
+    set_python
+    made=$("$found" -B "$tools/streettools" plan scenario "$1") || exit
+    say "$1 is a timing sheet: the scenario that it makes is run (arterial plan scenario writes it)"
+    exec <<END
+$made
+END
+}
+
 # The name of a file among the arguments of a command that reads one replaces standard input.
 case $1 in
 run | check | overlaps | band | respond)
@@ -163,7 +173,10 @@ run | check | overlaps | band | respond)
         [ -d "$file" ] && why="is a directory"
         [ -z "$why" ] && [ ! -r "$file" ] && why="permission denied"
         [ -z "$why" ] || { say "$file: $why" && exit 3; }
-        exec <"$file"
+        case $1:$file in
+        run:*.toml | run:*.xlsx) run_sheet "$file" ;;
+        *) exec <"$file" ;;
+        esac
     fi
     ;;
 esac

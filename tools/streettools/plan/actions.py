@@ -16,6 +16,7 @@ from ..shared.tables import Tables
 from . import (
     addresses,
     check,
+    days,
     explain,
     jsontext,
     live,
@@ -81,9 +82,24 @@ def write_sheet(path: str | None, sheet: dict[str, Any]) -> None:
         write(path, toml_text.text(sheet))
 
 
+def to_day(words: argparse.Namespace) -> int:
+    """Writes the scenario of a sheet on a day."""
+    street = taken(words.file, words.names).street
+    day = days.day_of(words.date)
+    plan = days.plan_of(street.day_plans, day)
+    street.on(plan)
+    told = f"{day.isoformat()} is a {days.WEEKDAYS[day.weekday()].capitalize()}: day plan {plan.name!r}"
+    street.notes[:] = [told, *(it for it in street.notes if not it.startswith("the schedule is that of day plan"))]
+    return write_street(words, street)
+
+
 def to_scenario(words: argparse.Namespace) -> int:
     """Writes the scenario, or the field file, of a sheet; and its names."""
-    street = taken(words.file, words.names).street
+    return write_street(words, taken(words.file, words.names).street)
+
+
+def write_street(words: argparse.Namespace, street: Street) -> int:
+    """Writes the scenario, or the field file, of a street; and its names."""
     tell(street.notes)
     if street.is_field() and not words.field:
         say(

@@ -20,6 +20,7 @@ BLOCKS = {
     "split": "Splits",
     "preempt": "Preempts", "detector": "Detectors",
 }  # fmt: skip
+DAY_PLAN, DAY_LISTS = "Day plan", ("days", "months", "dates")
 PHASE_LISTS = ("concurrent", "coordinated", "track", "dwell", "dwell_walks", "exit")
 WORD_LISTS = ("recall", "kept_options")
 HEADING, SMALL = Font(bold=True, size=12), Font(bold=True)
@@ -127,12 +128,27 @@ def write(sheet: dict[str, Any], path: str | BinaryIO) -> None:
         street.line("at", "section", "pattern", font=SMALL)
         for it in sheet["schedule"]:
             street.line(it["at"], it.get("section"), it["pattern"])
+    for plan in sheet.get("day_plan", ()):
+        write_day_plan(street, plan)
     taken = {STREET.lower(), *LISTS}
     for number, it in enumerate(sheet["intersection"], 1):
         write_intersection(Page(book.create_sheet(title_for(it.get("name", ""), number, taken))), it)
     for name, items in sheet.get("events", {}).items():
         write_list(Page(book.create_sheet(name)), items)
     book.save(path)
+
+
+def write_day_plan(page: Page, plan: dict[str, Any]) -> None:
+    """Writes a day plan to the page of the street: its name, its days, its schedule."""
+    page.row += 1
+    page.line(DAY_PLAN, plan["name"], font=HEADING)
+    for name in DAY_LISTS:
+        if name in plan:
+            page.line(name, ", ".join(map(str, plan[name])))
+    page.line("schedule")
+    page.line("at", "section", "pattern", font=SMALL)
+    for it in plan["schedule"]:
+        page.line(it["at"], it.get("section"), it["pattern"])
 
 
 def write_intersection(page: Page, table: dict[str, Any]) -> None:

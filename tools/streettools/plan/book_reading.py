@@ -14,7 +14,7 @@ from dataclasses import dataclass, field
 import openpyxl
 from typing import Any
 
-from .book import BLOCKS, FIRST, LISTS, PHASE_LISTS, STREET, WORD_LISTS
+from .book import BLOCKS, DAY_LISTS, DAY_PLAN, FIRST, LISTS, PHASE_LISTS, STREET, WORD_LISTS
 from .given import Fault, Unreadable
 
 TITLES = {title: name for name, title in BLOCKS.items()}
@@ -172,12 +172,30 @@ def read_row(block: dict[str, Any], kind: str, name: str, numbers: list, values:
             row[name] = read_value(name, value) if kind != "sequence" else value
 
 
+def read_days(name: str, value: object) -> object:
+    """Returns the days, months or dates of a day plan."""
+    if not isinstance(value, str):
+        return [value]
+    if " to " in value:
+        return value.strip()
+    words = [it.strip() for it in value.split(",")]
+    return [int(it) if it.isdecimal() else it for it in words] if name == "months" else words
+
+
 def read_street(rows: list[list], sheet: dict[str, Any]) -> None:
     """Takes up the page of the street."""
     block, header = None, False
+    day: dict[str, Any] | None = None
     for row in filled(rows):
         name, values = row[0], row[1:]
-        if name == STREET:
+        if name == DAY_PLAN:
+            block = day = {"name": str(values[0])} if values else {}
+            sheet.setdefault("day_plan", []).append(day)
+        elif day is not None and name in DAY_LISTS and values:
+            day[name] = read_days(name, values[0])
+        elif day is not None and name == "schedule" and not values:
+            block, header = day.setdefault("schedule", []), True
+        elif name == STREET:
             if values:
                 sheet["title"] = str(values[0])
         elif name in ("run", "master", "sections") and not values:

@@ -4,7 +4,7 @@ from collections.abc import Iterator
 from dataclasses import replace
 
 from ..shared.tables import Tables
-from . import bands, conflicts, rules, warnings
+from . import bands, conflicts, day_findings, rules, warnings
 from ..shared.cells import tables_of
 from .findings import Finding, Level, in_order, warn
 from .pattern_sentences import sentences
@@ -66,5 +66,6 @@ def findings(source: Source, program: str | None = None) -> list[Finding]:
         if not source.errors:
             found += broken_loads(street, tables) if all(sound) else ()
             found += warnings.all_of(street, tables, sound)
+            found += day_findings.of_days(street, tables)
             found += bands.findings(street, program) if all(sound) else ()
     return in_order(found)

@@ -7,6 +7,7 @@ from . import actions
 
 EPILOG = """examples:
   ./arterial plan scenario street.toml > street.json       # a sheet as a scenario
+  ./arterial plan day street.toml 2026-12-24 -o day.json   # the scenario of a day, by the sheet's day plans
   ./arterial plan sheet street.json > street.toml          # and back, without loss
   ./arterial plan sheet street.toml -o street.xlsx         # the sheet as a workbook, a page for each intersection
   ./arterial plan check street.toml                        # what is wrong with it, in words
@@ -29,6 +30,9 @@ LOADS_EPILOG = """examples:
   ./arterial plan loads old.toml new.toml --sets 3=127.0.0.1:10163 --only 3 --send
 
 These are the downloads of this bench's cabinets. A real controller doesn't have their objects, and is refused.
+"""
+DAY_EPILOG = """example:
+  ./arterial plan day street.toml 2026-12-24 -o day.json
 """
 UTDF_EPILOG = """examples:
   ./arterial plan from utdf street.csv --volumes street.volumes.toml -o street.toml
@@ -57,13 +61,23 @@ def add_file(part: argparse.ArgumentParser) -> None:
     part.add_argument("--names", metavar="NAMES", help="the names of a scenario (default: street.names.json next to street.json)")
 
 
+def add_scenario(part: argparse.ArgumentParser) -> None:
+    """Adds where a scenario and its names are written."""
+    add_output(part, "where to write; the names go to a file next to it (default: standard output)", metavar="OUTPUT")
+    part.add_argument("--field", action="store_true", help="write a field file, with the detectors")
+    part.add_argument("--names-out", metavar="NAMES", help="where to write the names (default: next to the output)")
+
+
 def add_conversions(parts) -> None:
     """Adds the parts that turn sheets into scenarios and back."""
     part = add(parts, "scenario", actions.to_scenario, "write the scenario of a sheet")
     add_file(part)
-    add_output(part, "where to write; the names go to a file next to it (default: standard output)", metavar="OUTPUT")
-    part.add_argument("--field", action="store_true", help="write a field file, with the detectors")
-    part.add_argument("--names-out", metavar="NAMES", help="where to write the names (default: next to the output)")
+    add_scenario(part)
+    part = add(parts, "day", actions.to_day, "write the scenario of a day, by the day plans of a sheet", DAY_EPILOG)
+    part.add_argument("file", metavar="SHEET", help="a sheet with day plans")
+    part.add_argument("date", metavar="DATE", help="the day, as 2026-12-24")
+    part.set_defaults(names=None)
+    add_scenario(part)
     part = add(
         parts, "sheet", actions.to_sheet, "write the sheet of a scenario; a workbook if OUTPUT ends in .xlsx"
     )

@@ -9,6 +9,7 @@ import secrets
 import socket
 import time
 from collections.abc import Callable
+from typing import Any
 
 from ..cabinet.messages import GET_NEXT, INTEGER, OCTETS, RESPONSE, Reply, kind_of, message, reply_of
 from ..shared.oids import ASC, CLOCK, CONTROL, CORRECTION, DETECTOR_ENTRY, ENTRIES, OWN, SEQUENCE_DATA
@@ -119,7 +120,7 @@ def walk(agent: Agent, advance: Callable[[int], object] = lambda count: None) ->
     return found
 
 
-def keep(agent: Agent, bindings: list, reached: dict[Name, Name], found: dict[Name, int | bytes]) -> None:
+def keep(agent: Agent, bindings: list[Any], reached: dict[Name, Name], found: dict[Name, int | bytes]) -> None:
     """Keeps the objects of some columns, each with its binding. A name that isn't greater than the one that was asked
     for is refused, since a walk would never end."""
     for column, (name, tag, content) in bindings:

@@ -6,12 +6,14 @@ from collections.abc import Callable
 from dataclasses import dataclass, field
 from typing import Any
 
-from . import given, intersection, names
+from . import days, given, intersection, names, started
 from .fields import Wrong, is_number, one_line
 from .findings import Finding, warn
 from .given import Given, Unreadable
 
-TOP = ("title", "units", "run", "master", "schedule", "sections", "intersection", "events", "respond")
+TOP = (
+    "title", "units", "run", "master", "schedule", "day_plan", "sections", "intersection", "events", "respond",
+)  # fmt: skip
 RUN = {"version": (1, 2), "rounds": (1, 86_400), "ticks": (1, 600)}
 USUAL_RUN = {"version": 1, "rounds": 600, "ticks": 10}
 """Where a sheet doesn't say how long its street is run: ten minutes, in rounds of a second."""
@@ -32,6 +34,11 @@ class Street:
     doubts: list[Finding] = field(default_factory=list)
     numbers: set[int] | None = None
     """The places of the schedule's entries whose time is written as a number; None if it comes from no sheet."""
+    day_plans: list[days.DayPlan] = field(default_factory=list)
+
+    def on(self, plan: days.DayPlan) -> None:
+        """Puts the schedule of a day plan into the scenario."""
+        self.scenario.setdefault("master", {})["schedule"] = plan.schedule
 
     def field_file(self) -> dict[str, Any]:
         """Returns the field file around the scenario."""
@@ -169,6 +176,17 @@ def read_events(top: Given, scenario: dict[str, Any]) -> list | None:
     return it.take("pulses", listed)
 
 
+def read_days(top: Given, street: Street, schedule: list[dict] | None) -> None:
+    """Takes up the day plans, of which a scenario has one: the first where no date is said."""
+    street.day_plans = days.read(top, read_schedule)
+    if street.day_plans and schedule is not None:
+        top.fault("day plans have schedules of their own, so this one holds on no day", "schedule")
+    if street.day_plans:
+        street.on(street.day_plans[0])
+        told = f"the schedule is that of day plan {street.day_plans[0].name!r}"
+        street.notes.append(f"{told}: `./arterial plan day` takes that of a date")
+
+
 def read_sheet(sheet: dict[str, Any]) -> tuple[Street, list[given.Fault]]:
     """Returns what a sheet comes to, and all faults that were found in it."""
     top = Given(sheet)
@@ -190,10 +208,12 @@ def read_sheet(sheet: dict[str, Any]) -> tuple[Street, list[given.Fault]]:
         street.notes += [f"{it.where}: {note}" for note in read.notes]
         street.doubts += [warn(found.called(number), words, is_cause=True) for words in read.doubts]
         street.bank += read_detectors(it, number, scenario["ticks"], read.names)
-    master = read_master(top.below("master"), read_schedule(top))
+    schedule = read_schedule(top)
+    master = read_master(top.below("master"), schedule)
     if master is not None:
         scenario["master"] = master
     street.numbers = {place - 1 for place, it in top.tables("schedule") if is_number(it.table.get("at"))}
+    read_days(top, street, schedule)
     street.pulses = read_events(top, scenario)
     street.respond = respond_of(top)
     return street, top.faults

@@ -28,6 +28,8 @@ def scalar(value: object) -> str:
             return "true" if value else "false"
         case int() | float():
             return repr(value)
+        case datetime.date():
+            return value.isoformat()
         case datetime.time():
             return value.isoformat().rstrip("0") if value.microsecond else value.isoformat()
         case str():
@@ -89,6 +91,9 @@ def lines(sheet: dict[str, Any]) -> Iterator[str]:
     for name in ("run", "master", "sections"):
         if sheet.get(name):
             yield from ("", f"[{name}]", *pairs(sheet[name]))
+    for plan in sheet.get("day_plan", ()):
+        yield from ("", "[[day_plan]]", *pairs({name: it for name, it in plan.items() if name != "schedule"}))
+        yield from rows("schedule", plan["schedule"])
     for table in sheet["intersection"]:
         yield ""
         yield from intersection(table)

@@ -239,6 +239,9 @@ def sheet_of(street: Street) -> dict[str, Any]:
     if known.sections:
         sheet["sections"] = {str(number): name for number, name in known.sections.items()}
     sheet |= master_sheet(scenario.get("master", {}))
+    if street.day_plans:
+        del sheet["schedule"]
+        sheet["day_plan"] = [it.row() for it in street.day_plans]
     sheet["intersection"] = []
     for number, cabinet in enumerate(scenario["cabinets"], 1):
         of = known.intersection(number)
