@@ -103,7 +103,7 @@ def test_faults_come_one_after_another_as_is_shown(run):
 
 
 SHEETS = {
-    "docs/PLANS.md": ("scenarios/sheets/main-street.toml", "scenarios/sheets/mistake.toml"),
+    "docs/PLANS.md": tuple(f"scenarios/sheets/{name}.toml" for name in ("main-street", "mistake", "week")),
     "docs/TUTORIAL.md": ("scenarios/tutorial/as-entered.toml",),
 }
 """By page, the sheets of which it shows parts."""

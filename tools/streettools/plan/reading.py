@@ -6,7 +6,7 @@ from collections.abc import Callable
 from dataclasses import dataclass, field
 from typing import Any
 
-from . import days, given, intersection, names, started
+from . import days, given, intersection, names
 from .fields import Wrong, is_number, one_line
 from .findings import Finding, warn
 from .given import Given, Unreadable
