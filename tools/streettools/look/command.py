@@ -32,8 +32,27 @@ def span(words, reader, usual):
 
 
 def names_of(words, reader):
-    """Returns what things are called."""
-    return called.fitting(called.read(words.names), words.names, reader.cabinets) if words.names else called.Called()
+    """Returns the names of things."""
+    if not words.names:
+        return called.Called()
+    found = of_sheet(words, reader) or called.read(words.names)
+    return called.fitting(found, words.names, reader.cabinets)
+
+
+def of_sheet(words, reader):
+    """Returns the names of a sheet, None if the file isn't one. The start and the travel times are taken from it, too,
+    unless the arguments give them."""
+    from ..plan import taking  # takes a while
+
+    if not taking.is_sheet(words.names):
+        return None
+    street = taking.sheet(words.names)
+    if words.command != "events" and getattr(words, "start", 0) is None:
+        words.start = taking.start_of(street)
+    if getattr(words, "travel", 0) is None and not words.cabinets:
+        found = taking.travels_of(street)
+        words.travel = found if found and len(found) == reader.cabinets - 1 else None
+    return called.Called(street.names)
 
 
 def street_of(words, reader):

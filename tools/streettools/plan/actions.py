@@ -8,7 +8,6 @@ from dataclasses import replace
 from typing import Any
 
 from ..shared import files
-from ..shared.fault import Fault
 from ..shared.progress import bar
 from ..shared.saying import say
 from ..shared.status import Status
@@ -37,21 +36,9 @@ from .findings import Level, counted
 from .given import Unreadable
 from .reading import Street, street_of
 from .sources import Source
+from .taking import Refused, taken
 
 BOOK, PICTURES = ".xlsx", (".svg", ".png", ".pdf")
-
-
-class Refused(Fault):
-    """A file or words can't be taken, in lines."""
-
-
-def taken(path: str, named: str | None = None) -> Source:
-    """Reads a file that must be without faults of its names and values."""
-    source = sources.load(path, named)
-    errors = source.errors or (check.card_errors(source.street) if source.text is None else [])
-    if errors:
-        raise Refused("\n".join(f"{path}: {it}" for it in errors))
-    return source
 
 
 def tell(notes: list[str]) -> None:

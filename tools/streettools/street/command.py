@@ -51,24 +51,36 @@ def scenario_of(program: pathlib.Path, text: bytes) -> dict[str, Any]:
     return scenario
 
 
+def text_of(path: str) -> bytes:
+    """Returns the scenario of a file in one line: that which a timing sheet makes, too."""
+    from ..plan import taking  # takes a while
+
+    if taking.is_sheet(path):
+        return json.dumps(taking.sheet(path).scenario).encode()
+    return pathlib.Path(path).read_bytes().replace(b"\n", b" ")
+
+
 def asked_for(given: argparse.Namespace, program: pathlib.Path) -> tuple[dict[str, Any], list[bytes]]:
     """Returns the scenario that the words ask for, and the requests that are to happen again in it."""
     if again := words.again(given):
         text, requests = read_requests(pathlib.Path(again))
         return scenario_of(program, text), requests
     if given.scenario:
-        return scenario_of(program, pathlib.Path(given.scenario).read_bytes().replace(b"\n", b" ")), []
+        return scenario_of(program, text_of(given.scenario)), []
     return USUAL, []
 
 
 def names_of(scenario: pathlib.Path, count: int) -> dict[int, str]:
     """Returns the names of the intersections, where a file with names is beside the scenario."""
-    from ..plan import names  # takes a while
+    from ..plan import names, taking  # takes a while
 
     file = names.beside(scenario)
-    if not file.is_file():
+    if taking.is_sheet(str(scenario)):
+        found = taking.sheet(str(scenario)).names
+    elif file.is_file():
+        found = names.read(file.read_text(encoding="utf-8"))
+    else:
         return {}
-    found = names.read(file.read_text(encoding="utf-8"))
     return {number: found.intersection(number).name for number in range(1, count + 1)}
 
 

@@ -65,7 +65,8 @@ def parser() -> argparse.ArgumentParser:
     """Returns the reader of the options."""
     words = Parser("street", description=ABOUT, epilog=AFTER)
     words.add_argument(
-        "--scenario", metavar="FILE", help="the scenario of the street (default: one standard cabinet, rounds of 1 s)"
+        "--scenario", metavar="FILE",
+        help="the scenario of the street, or its timing sheet (default: one standard cabinet, rounds of 1 s)",
     )
     words.add_argument(
         "--ports",

@@ -4,6 +4,8 @@ import argparse
 import pathlib
 import sys
 from collections.abc import Callable
+from dataclasses import replace
+from typing import Any
 
 from ...shared.commandline import Parser, add_json, add_output, add_program, number
 from ...shared.fault import Fault
@@ -35,7 +37,7 @@ def parser() -> argparse.ArgumentParser:
         epilog=EXAMPLES,
     )
     words.add_argument("volumes", help="volumes and routes, in TOML; - is standard input")
-    words.add_argument("--scenario", required=True, metavar="FILE", help="the cabinets: a scenario")
+    words.add_argument("--scenario", required=True, metavar="FILE", help="the cabinets: a scenario, or a timing sheet")
     words.add_argument("--seconds", type=number(1, 5_529_600), metavar="S", help="the length (default: that of the scenario)")
     words.add_argument("--warm", type=number(0, 5_529_600), default=0, metavar="S", help="exclude trips that start earlier (default: 0)")
     words.add_argument("--step", choices=STEPS, default="1", help="seconds between two samples of the detectors (default: 1)")
@@ -62,12 +64,26 @@ def asked_of(words: argparse.Namespace, seconds: float) -> Asked:
     return Asked(seconds, step, words.seed, words.warm, words.keep_inputs, words.output is not None)
 
 
+def given(words: argparse.Namespace) -> tuple[Volumes, dict[str, Any]]:
+    """Returns the volumes and the scenario. Where a sheet is given in its place, the partners that its rings need are
+    idle without being listed."""
+    from ...plan import taking  # takes a while
+
+    volumes = read_volumes(content_of(words.volumes), words.volumes)
+    if not taking.is_sheet(words.scenario):
+        return volumes, queue_study.read_scenario(content_of(words.scenario), words.scenario)
+    street = taking.sheet(words.scenario)
+    rows = enumerate(street.names.intersections, 1)
+    partners = {(number, phase) for number, it in rows for phase in it.partners}
+    busy = {(it.cabinet, it.phase) for it in volumes.flows} | {(it.cabinet, it.phase) for it in volumes.crossings}
+    return replace(volumes, idle=volumes.idle | (partners - busy)), street.scenario
+
+
 def ran(words: argparse.Namespace) -> Ran:
     """Runs what the words ask for."""
     from ...shared.progress import bar
 
-    volumes = read_volumes(content_of(words.volumes), words.volumes)
-    scenario = queue_study.read_scenario(content_of(words.scenario), words.scenario)
+    volumes, scenario = given(words)
     asked = asked_of(words, queue_study.seconds_of(scenario, words.seconds))
     program = str(found(words.program))
     shown = bar(round(asked.seconds * 10) // asked.step, "step")
