@@ -30,7 +30,7 @@ opens n r street cycle band greatest closed =
     let shut : is_open n r street (band.start + 0) ≡ false = closed (band.start + 0) (omega (arith, starts)) in
     cc
 
--- there is one greatest band
+-- there is one widest band
 one-greatest : (n r : ℕ) (street : List Passage) (cycle : ℕ) (a b : Band) → IsGreatest n r street cycle a → IsGreatest n r street cycle b → a ≡ b
 one-greatest n r street cycle a b x y =
     let wide : b.width ≤ a.width = x.widest b.start b.width y.is in

@@ -57,7 +57,7 @@ fn best_of(arcs: &Vec<Arc>, cycle: u32) -> Span
     best
 }
 
-/// The greatest band of these windows, none where no time is in all of them.
+/// The widest band of these windows, none where no time is in all of them.
 fn band_of(arcs: &Vec<Arc>, cycle: u32) -> Option<Band>
     requires fit { FitCycle cycle arcs.now.items }
     ensures { Leaves cycle arcs.now.items result }

@@ -43,7 +43,7 @@ fn next_leg(
     Some(leg_in(alloc, &value, place))
 }
 
-/// Reads one more item, nested at most so deep, behind those before; or passes over it behind a fault.
+/// Reads one more item, nested at most so deep, behind those before; or skips it behind a fault.
 fn one_more(alloc: Global, reader: &mut Reader<'_>, depth: usize, legs: &mut Legs) -> Option<()>
     ensures ok { IfSome result (λ _. (d : Data) × (converted of_json (value depth reader.old) ≡ Some (d, reader.new))
         × ((ds : Items) → AreLegs legs.old ds → AreLegs legs.new (both ds (item d no_items)))) }

@@ -47,7 +47,7 @@ kept-within m past n k on =
     let counts = k.counts n on in
     omega (arith, counts.within, counts.stands.counter, last-is past.moments past.version n on)
 
--- in step with a pattern the counter is within its cycle
+-- while coordinated in a pattern the counter is within its cycle
 pub within-cycle : (c : Control) (past : Past) (n : ℕ) → ControlKeeps c past → is_in_step (frame_seen past) past.version n ≡ true
     → (frame_seen past).counter < cycle_time past.tables n
 within-cycle (Registers c) past n k on = kept-within c.memory past n k.memory on

@@ -80,7 +80,7 @@ pub record Shares (old new : Book) : Type 0 where
   pub others : (p : ℕ) → p < 4 → left_of new p ≡ left_of old p
   pub ticks : ticks_left new.left ≡ ticks_left old.left
 
--- a frame was met with silence: the cabinet is as it was, and nothing but the silence was added
+-- a frame was ignored: the cabinet is as it was, and nothing but the silence was added
 pub record IsIgnored (old new : Book) (pass : ℕ) : Type 0 where
   pub cabinet : cabinet_in new ≡ cabinet_in old
   pub written : written_in new ≡ written_in old

@@ -32,7 +32,7 @@ pub record IsShowable (past : Past) : Type 0 where
   pub counter : (frame_seen past).counter ≤ 2147483647
   pub target : (frame_seen past).target ≤ 2147483647
 
--- what a cabinet history has come to can be gone on with, after so many ticks
+-- what a cabinet history has come to can be gone on with, after N ticks
 pub record IsSound (n : ℕ) (has : Coming) : Type 0 where
   pub ticks : n + 1 ≡ length (frames has.history)
   pub shows : IsShowable (past_of has)
@@ -75,8 +75,8 @@ OnlyDrifts [] = Unit {0}
 OnlyDrifts (SetDrift gain lose ∷ events) = OnlyDrifts events
 OnlyDrifts _ = ⊥
 
--- the history of a controller that was opened at a time of the day with tables whose every cell holds what may stand in it, and to
--- which nothing has happened
+-- the history of a controller that was opened at a time of the day with tables whose every cell holds an allowed value,
+-- and to which nothing has happened
 pub record IsNew (h : History) : Type 0 where
   pub events : OnlyDrifts h.events
   pub of_day : h.clock < 864000

@@ -6,7 +6,7 @@ use Rattle.cabinet_history.specs.CabinetHistory.{CabinetHistory, with_item}
 use Rattle.cabinet_history.specs.Coming.{history_of}
 use Rattle.cabinet_history.specs.Frames.{tick_written}
 
--- the cabinet history after so many ticks more
+-- the cabinet history after N ticks more
 abbrev pub ticks_on : ℕ → CabinetHistory → CabinetHistory
 ticks_on zero cabinet_history = cabinet_history
 ticks_on (suc k) cabinet_history = with_item (ticks_on k cabinet_history) Ticked

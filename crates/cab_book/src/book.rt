@@ -319,7 +319,7 @@ impl Book {
         Ok(())
     }
 
-    /// Takes room for what one item more may give. Nothing else of the book changes, also where memory is wanting.
+    /// Takes room for what one item more may give. Nothing else of the book changes, also if memory runs out.
     fn reserve_one(&mut self) -> Result<(), NoMemory>
         ensures room { OnOk result (HasRoom self.new.happened (ticks_left self.old.left) (frames_left self.old.left + 1) (items_left self.old.left + 1)) }
         ensures same { HasOnlyRoom self.old self.new }

@@ -1,4 +1,5 @@
--- Where each cell of the opening tables holds what may stand in it, so does each cell of all tables that a cabinet history puts in force.
+-- Where each cell of the opening tables holds an allowed value, so does each cell of all tables that a cabinet history
+-- puts in force.
 use Rattle.std.proofs.Common.{[], ◌∷◌, sym, subst, inl, inr}
 use Rattle.sig_types.specs.declared.notes.StageAnswer.{StageAnswer}
 use Rattle.sig_types.specs.declared.notes.StageAnswer.TheVariants.{Staged, Repeated, Verified, Accepted, WrongToken, WrongPart, NotVerified, Refused}

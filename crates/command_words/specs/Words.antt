@@ -33,7 +33,7 @@ IsGenerate words from = (words ≡ codes "generate" ∷ seeding_words from) × C
 abbrev pub IsSurvey : List (List ℕ) → Seeding → Type 0
 IsSurvey words from = (words ≡ codes "survey" ∷ seeding_words from) × CanSeed from
 
--- to tell the greatest bands of a street
+-- to tell the widest bands of a street
 abbrev pub IsBand : List (List ℕ) → Type 0
 IsBand words = words ≡ codes "band" ∷ []
 

@@ -35,7 +35,7 @@ pub enum Command {
     Generate(Seeding),
     /// To count what a run of one comes to.
     Survey(Seeding),
-    /// To tell the greatest bands of a street.
+    /// To tell the widest bands of a street.
     Band,
     /// To write the scenario that a field file makes of its detectors and its traffic.
     Respond,

@@ -51,7 +51,7 @@ fn run_workers(words: &[String]) -> Option<u32>
     }
 }
 
-/// Whether a scenario of so many cabinets and rounds is generated.
+/// Whether a scenario of this number of cabinets and rounds is generated.
 fn can_make(cabinets: u32, rounds: u32) -> bool
     ensures { IsTrue result ↔ CanMake cabinets rounds }
 {

@@ -7,7 +7,7 @@ use Rattle.sig_tables.specs.Layout.{Has}
 use Rattle.sig_tables.specs.Laying.{EachIs}
 use Rattle.coord_gate.specs.declared.gate.Gate.{Gate}
 
--- the gate is that of pattern n: its plan, its coordinated phases, and the least service of each phase
+-- the gate is that of pattern n: its plan, its coordinated phases, and the minimum service of each phase
 pub record GateStands (g : Gate) (t : Tables) (n : ℕ) : Type 0 where
   pub plan : g.plan.now ≡ plan_of t n
   pub coordinated : Has g.coordinated (is_coordinated t n)

@@ -156,7 +156,7 @@ path-step d t n most m l past quiet on next later cycle before = record {
     sums : (a b x j : ℕ) → a ≡ b + 1 → b ≡ x + j → a ≡ x + (j + 1)
     sums a b x j h i = omega arith
 
-    -- the clock steps at this tick as it does so many ticks after the first local zero
+    -- the clock steps at this tick as it does N ticks after the first local zero
     here : step_at d m.number ≡ shifted j steps 0
     here = ap (step_at d) (numbers _ _ _ _ next before.number) ∙ sym (shifted-at j steps 0)
       where

@@ -1,4 +1,4 @@
--- Ticks in step with a pattern, from its pickup on: every phase is in time after each, and each local zero holds.
+-- Coordinated ticks of a pattern, from its pickup on: every phase is in time after each, and each local zero holds.
 use Rattle.std.proofs.Common.{◌≡◌, inl, inr, ℕ, zero, suc, Bool, true, false, not, ◌==◌, ◌||◌, if◌then◌else◌, List, [], ◌∷◌, refl, sym, ◌∙◌, ap, subst}
 use Rattle.std.proofs.lemmas.Bool.{and_parts, eqb-true}
 use Rattle.sig_types.specs.declared.frame.Frame.{Frame}

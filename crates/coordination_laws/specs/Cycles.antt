@@ -1,5 +1,5 @@
--- Ticks in step with a pattern, as the counter sees them: from a pickup or a disturbance to the next local zero, and from the first
--- local zero onto the offset.
+-- Ticks coordinated in a pattern, as the counter sees them: from a pickup or a disturbance to the next local zero, and
+-- from the first local zero onto the offset.
 use Rattle.std.specs.Prelude.{ℕ, Bool, true, false, ◌≡◌, ◌⊎◌, ◌≤◌, ◌<◌, ◌+◌, ◌*◌, ◌==◌, ◌&&◌, ◌||◌, List, [], ◌∷◌}
 use Rattle.sig_types.specs.declared.frame.Mode.TheVariants.{Coord}
 use Rattle.sig_tables.specs.declared.tables.Tables.{Tables}

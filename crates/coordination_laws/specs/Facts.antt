@@ -25,7 +25,7 @@ use Rattle.coordination_laws.specs.Versions.{IsVersion, greatest_at, HasYellow}
 use Rattle.coordination_laws.specs.Lasting.{SeekTick, Searches, StepTick}
 use Rattle.coordination_laws.specs.Cycles.{CountsOn, InCycle, HasTime, step_at, OnPath}
 
--- the mode is in step with a pattern
+-- the mode is coordinated in a pattern
 abbrev pub is_coord : Mode → Bool
 is_coord (Coord n) = true
 is_coord mode = false

@@ -109,7 +109,7 @@ pub record Found (v : View) (goal : List ℕ) (p : ℕ) (m : Moment) : Type 0 wh
   pub tables : m.tables ≡ v.tables
   pub colour : colour_of m.frame p ≡ colour_after (goal_moves v goal) p v.tables v.past (colour_of (last_frame v.past) p)
 
--- every phase, so many ticks after the last disturbance: those outside the goal with their signals, and those of the goal
+-- every phase, N ticks after the last disturbance: those outside the goal with their signals, and those of the goal
 pub record InSearch (g : ℕ → Greatest) (t : Tables) (goal : List ℕ) (ticks : ℕ) (past : List Moment) : Type 0 where
   pub outside : (p : ℕ) → is_enabled t p ≡ true → is_in goal p ≡ false → OutStands (g p) t p ticks past (colour_of (last_frame past) p)
   pub signals : (p : ℕ) → is_enabled t p ≡ true → is_in goal p ≡ false → OutSignal (g p) t p ticks past (signal_of (last_frame past) p)

@@ -58,7 +58,7 @@ fn put_entries(
     }
 }
 
-/// The compact text and a newline, with room for so many bytes.
+/// The compact text and a newline, with room for N bytes.
 fn line_of(alloc: Global, text: &ScenarioText<'_>, room: usize) -> Result<Vec<u8>, NoMemory>
     ensures { IfOk result (λ line. (s : Data) → Writes text.now s → IsLineOf line.items s) }
 {
@@ -73,7 +73,7 @@ fn line_of(alloc: Global, text: &ScenarioText<'_>, room: usize) -> Result<Vec<u8
     }
 }
 
-/// The text of the scenario with this traffic, with room for so many bytes.
+/// The text of the scenario with this traffic, with room for N bytes.
 pub(crate) fn text_in_parts(
     alloc: Global,
     mut text: ScenarioText<'_>,

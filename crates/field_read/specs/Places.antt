@@ -21,7 +21,7 @@ steps_of Respond = Named (codes "respond") ∷ []
 steps_of (Section i) = section_path i
 steps_of (Step i j) = step_path i j
 
--- what the names behind the scenario say, of so many rounds and cabinets
+-- what the names behind the scenario say, of this number of rounds and cabinets
 pub record SaysTraffic (traffic : Traffic) (rounds cabinets : ℕ) (d : Data) : Type 0 where
   pub bank : traffic.bank.items ≡ bank_of cabinets d
   pub pulses : traffic.pulses.items ≡ pulses_of rounds cabinets d

@@ -79,7 +79,7 @@ unasked_section =
 abbrev pub unasked : Data
 unasked = object (member (codes "period") (number (unsigned 1)) (member (codes "sections") (array (item unasked_section no_items)) no_members))
 
--- the whole, of a scenario with so many rounds and cabinets
+-- the whole, of a scenario with this number of rounds and cabinets
 abbrev pub bank : ℕ → Field
 bank cabinets = optional_list (codes "bank") 512 (object_of (detector_shape cabinets))
 

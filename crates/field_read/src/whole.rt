@@ -25,7 +25,7 @@ fn bank_within(bank: &Vec<Detector>, cabinets: usize) -> bool
     bank.iter().all(|d| d.cabinet as usize <= cabinets)
 }
 
-/// Whether each pulse is of one of so many rounds and cabinets.
+/// Whether each pulse is of one of this number of rounds and cabinets.
 fn pulses_within(pulses: &Vec<Pulse>, rounds: u32, cabinets: usize) -> bool
     ensures { result ≡ list_all (λ p. nat_le p.round rounds && nat_le p.cabinet cabinets) pulses.now.items }
 {

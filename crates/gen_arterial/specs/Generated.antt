@@ -1,6 +1,6 @@
--- What is generated from a seed for so many cabinets and rounds, by the places of its draws, which are counted from 0. Each cabinet
--- takes four draws. Then each round takes three for each cabinet, one that says whether a poll is lost, and where it is, one for its
--- cabinet. Below, i is a cabinet counted from 0.
+-- What is generated from a seed for this number of cabinets and rounds, by the places of its draws, which are counted
+-- from 0. Each cabinet takes four draws. Then each round takes three for each cabinet, one that says whether a poll is
+-- lost, and where it is, one for its cabinet. Below, i is a cabinet counted from 0.
 use Rattle.std.specs.Prelude.{ℕ, zero, suc, ◌+◌, ◌*◌, ◌==◌, Bool, if◌then◌else◌, List, [], ◌∷◌, ◌++◌}
 use Rattle.sig_types.specs.declared.frame.Field.TheVariants.{Veh, Ped}
 use Rattle.sig_types.specs.declared.notes.Way.TheVariants.{Poll}

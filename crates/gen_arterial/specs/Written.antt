@@ -119,7 +119,7 @@ generated seed cabinets rounds = record {
 abbrev pub generated_text : ℕ → ℕ → ℕ → List ℕ
 generated_text seed cabinets rounds = compact_text (scenario_value seed cabinets rounds) ++ 10 ∷ []
 
--- for so many cabinets and rounds a scenario is generated
+-- for this number of cabinets and rounds a scenario is generated
 pub record CanMake (cabinets rounds : ℕ) : Type 0 where
   pub some : 1 ≤ cabinets
   pub few : cabinets ≤ 64

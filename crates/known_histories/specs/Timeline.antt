@@ -8,11 +8,11 @@ pub record Step : Type 0 where
   pub ticks : ℕ
   pub event : Event
 
--- this event after so many ticks
+-- this event after N ticks
 abbrev pub after : ℕ → Event → Step
 after n event = record { ticks = n; event = event }
 
--- so many ticks after these events
+-- N ticks after these events
 abbrev pub ticks : ℕ → List Event → List Event
 ticks zero events = events
 ticks (suc n) events = Tick ∷ ticks n events

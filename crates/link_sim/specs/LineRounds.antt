@@ -24,7 +24,7 @@ abbrev pub HoldsRound : StreamLine → StreamLine → List Fault → ℕ → Lis
 HoldsRound old new faults round sent =
     (past : List (List (List ℕ))) → Holds old faults past → round ≡ length past + 1 → Holds new faults (sent ∷ past)
 
--- one line still holds what is late of the rounds before, so that the round may come again
+-- one line still holds what is late of the rounds before, so that the round may be repeated
 abbrev pub StillHolds : StreamLine → StreamLine → List Fault → ℕ → Type 0
 StillHolds old new faults round =
     (past : List (List (List ℕ))) → Holds old faults past → round ≡ length past + 1 → Holds new faults past
@@ -54,7 +54,7 @@ HoldRound old new faults round sent =
     (cab : ℕ) (direction : Direction) (past : Passed) → AreLines old faults cab direction past → round ≡ length past.polls + 1
     → AreLines new faults cab direction (with_frames sent past)
 
--- the three lines still hold what is late of the rounds before, so that the round may come again
+-- the three lines still hold what is late of the rounds before, so that the round may be repeated
 abbrev pub StillHold : Lines → Lines → List Fault → ℕ → Type 0
 StillHold old new faults round =
     (cab : ℕ) (direction : Direction) (past : Passed) → AreLines old faults cab direction past → round ≡ length past.polls + 1

@@ -13,7 +13,7 @@ pub heard_one : (x : ArrayVec ℕ) (xs : List (ArrayVec ℕ)) (m : Message) → 
     → messages (texts_of (x ∷ xs)) ≡ m ∷ messages (texts_of xs)
 heard_one x xs m e = rw e refl
 
--- what isn't a message is passed over
+-- what isn't a message is skipped
 pub heard_none : (x : ArrayVec ℕ) (xs : List (ArrayVec ℕ)) → message_of x.items ≡ None → messages (texts_of (x ∷ xs)) ≡ messages (texts_of xs)
 heard_none x xs e = rw e refl
 

@@ -105,7 +105,7 @@ off-needed k e room below (Skipping mode one) =
     let n : needed k 1 ≤ steps_for 1 k.subtract = needed-subtracts k 1 mode in
     inr (omega arith, subst (λ (x : ℕ). needed k x ≤ 1) (sym one) (omega arith))
 
--- with an even clock it is on target after so many ticks, at most these
+-- with an even clock it is on target after N ticks, at most these
 pub record Deadline (k : Correction) (q t : ℕ) (past : List ℕ) : Type 0 where
   pub ticks : ℕ
   pub within : ticks ≤ q

@@ -2,7 +2,7 @@
 use Rattle.std.specs.Prelude.{ℕ, true, false, ◌≡◌, ◌≢◌, ◌≤◌, ◌<◌, ◌+◌, ◌*◌, List}
 use Rattle.sig_tables.specs.Counting.{Correction, counted, target_after, last_counter, begins_cycle, most_a_cycle, needed}
 
--- from a moment at which a cycle begins with this target, the next one begins after so many ticks
+-- from a moment at which a cycle begins with this target, the next one begins after N ticks
 pub record CycleEnds (k : Correction) (past : List ℕ) (target ticks : ℕ) : Type 0 where
   pub begins : begins_cycle (counted k ticks target past) ≡ true
   pub first : (n : ℕ) → 1 ≤ n → n < ticks → begins_cycle (counted k n target past) ≡ false
@@ -17,7 +17,7 @@ pub record Corrects (k : Correction) (past : List ℕ) (target : ℕ) : Type 0 w
   pub closer : target ≢ 0 → needed k target ≡ needed k (target_after k ticks target) + 1
   pub stays : target ≡ 0 → target_after k ticks target ≡ 0
 
--- counter and target are equal after so many ticks
+-- counter and target are equal after N ticks
 abbrev pub AreEqual : Correction → List ℕ → ℕ → ℕ → Type 0
 AreEqual k past target n = last_counter (counted k n target past) ≡ target_after k n target
 

@@ -44,7 +44,7 @@ impl Side {
         }
     }
 
-    /// The greatest of the numbers that phases of the set have; 0 where it has none. Phase p stands at place p - 1.
+    /// The greatest of the numbers that phases of the set have; 0 where it has none. Phase p is at place p - 1.
     fn greatest_in(set: PhaseSet, numbers: &[u32; 16]) -> u32
         ensures { result ≡ greatest (at_phase numbers.now) (phases_of set) }
     {

@@ -4,7 +4,7 @@ use Rattle.sig_types.specs.declared.phase_set.PhaseSet.{PhaseSet}
 use Rattle.sig_types.specs.PhaseSet.{has}
 use Rattle.phase_clock.specs.declared.Clocks.{Clocks}
 
--- the clocks after so many ticks more at which nothing changes
+-- the clocks after N ticks more at which nothing changes
 abbrev pub passed : ℕ → Clocks → Clocks
 passed k c = record c { steps = c.steps + k }
 

@@ -68,7 +68,7 @@ is_near d m =
     && (tick_later (cycle_time m.tables m.command) m.frame.counter == m.frame.target
     || tick_later (cycle_time m.tables m.command) m.frame.target == m.frame.counter)
 
--- counter and target were equal at a moment since the first local zero, at most so many ticks after the last disturbance, and
+-- counter and target were equal at a moment since the first local zero, at most N ticks after the last disturbance, and
 -- have been near ever since
 abbrev pub holds_since : Drift → ℕ → List Moment → Bool
 holds_since d most [] = false

@@ -39,8 +39,8 @@ pub record SidesLie (t : Tables) (n : ℕ) : Type 0 where
       → (side_end t n p ≤ slot_start t n q) ⊎ (side_end t n q ≤ slot_start t n p)
   pub one_end : (p q : ℕ) → are_of_one_side t p q ≡ true → side_end t n p ≡ side_end t n q
 
--- from local zero to the window both coordinated phases may stay Green: for the stands of one cycle, for its skips, and for
--- the least service of either after the skips
+-- from local zero to the window both coordinated phases may stay Green: for the waits of one cycle, for its skips, and
+-- for the minimum service of either after the skips
 pub record WindowHolds (t : Tables) (n : ℕ) : Type 0 where
   pub some : 1 ≤ window t n
   pub stands : t.unit.add ≤ window t n

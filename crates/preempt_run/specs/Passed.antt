@@ -3,7 +3,7 @@ use Rattle.std.specs.Prelude.{ℕ, ◌≡◌, ◌+◌, []}
 use Rattle.sig_types.specs.PhaseSet.{phases_of}
 use Rattle.preempt_run.specs.declared.Preempts.{Preempts}
 
--- what is kept after so many ticks more at which nothing changes
+-- what is kept after N ticks more at which nothing changes
 abbrev pub passed : ℕ → Preempts → Preempts
 passed k c = record c { steps = c.steps + k }
 

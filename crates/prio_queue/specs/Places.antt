@@ -43,7 +43,7 @@ abbrev pub leader_by : Tables → ℕ → ℕ → Option Kept → Option Place �
 leader_by t n ticks kept others =
     if has_stayed ticks (meant kept) && not (was_cancelled kept) then leader_for t n (meant kept) others else others
 
--- the state of what is kept after so many ticks, where it was active at the last of them or not
+-- the state of what is kept after N ticks, where it was active at the last of them or not
 abbrev pub kept_state : Option Kept → ℕ → Bool → ℕ
 kept_state None ticks active = 0
 kept_state (Some p) ticks active =

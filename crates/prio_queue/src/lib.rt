@@ -90,7 +90,7 @@ impl Queue {
         }
     }
 
-    /// The request that comes first of those that are live after so many ticks and for one of these phases.
+    /// The request that comes first of those that are live after N ticks and for one of these phases.
     fn leader(&self, tick: u32, coordinated: PhaseSet) -> Option<Place>
         ensures { (past : Past) (t : Tables) (n : ℕ) → QueueStands self.now past → Has coordinated (is_coordinated t n)
             → meant result ≡ leader t n tick past.asked all_requests }

@@ -13,7 +13,7 @@ use Rattle.plan_facts.specs.Meets.{Meets, MeetsEach}
 abbrev pub opened : Moment
 opened = record (first_moment std8) { command = 1 }
 
--- the moment after so many ticks in the standard pattern, with this colour on its coordinated phases, 2 and 6
+-- the moment after N ticks in the standard pattern, with this colour on its coordinated phases, 2 and 6
 abbrev pub moment_of : ℕ → Colour → ℕ → ℕ → Moment
 moment_of tick colour counter target = record (first_moment std8) {
   number = tick;

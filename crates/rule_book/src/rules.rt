@@ -26,7 +26,8 @@ pub enum PhaseRule {
     SharedList,
     /// Rule 10: its yellow change is at least 3 seconds (NTCIP 1202 section 2.2.2.8).
     YellowChange,
-    /// Rule 11: its red revert is at most the least service and clearance of each other phase (NTCIP 1202 section 2.2.2.10).
+    /// Rule 11: its red revert is at most the minimum service and clearance of each other phase (NTCIP 1202 section
+    /// 2.2.2.10).
     RedRevert,
     /// Rule 12: where it is green at start-up, each other phase that is so is concurrent with it (NTCIP 1202 section 2.2.2.20).
     StartUp,
@@ -57,8 +58,8 @@ pub enum PatternRule {
     /// Rule 17: the splits of each ring fill the cycle, and those of each side are as long in both rings
     /// (NTCIP 1202 section 2.5.9.3).
     SplitSum,
-    /// Rule 18: each phase that is neither coordinated nor omitted has its least service before its force-off
-    /// (NTCIP 1202 section 2.5.9.3).
+    /// Rule 18: each phase that is neither coordinated nor omitted has its minimum service before its force-off (NTCIP
+    /// 1202 section 2.5.9.3).
     LeastService,
     /// Rule 19: the coordinated phases have room for what the correction of the offset may take from one cycle
     /// (NTCIP 1202 section 2.5.2).

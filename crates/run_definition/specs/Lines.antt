@@ -17,7 +17,7 @@ use Rattle.cabinet_history.specs.CabinetAnswers.{item_replies, item_written}
 use Rattle.master_rounds.specs.Rounds.{noted}
 use Rattle.run_definition.specs.CabinetState.{CabinetState, opened_cabinet_states, round_acts, each_cabinet_state}
 
--- the line of a frame that a cabinet shows after so many ticks
+-- the line of a frame that a cabinet shows after N ticks
 abbrev pub shown_line : ℕ → ℕ → Frame → Line
 shown_line cab tick f = F cab tick f.veh f.ped f.mode f.counter f.target f.version
 

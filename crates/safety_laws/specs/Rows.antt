@@ -71,7 +71,7 @@ short_clear = second_line 0 Clear Dont ∷ second_line 14 Red Dont ∷ []
 abbrev pub long_clear : List Line
 long_clear = second_line 0 Clear Dont ∷ second_line 16 Red Dont ∷ []
 
--- phase 2 is Green for 99 ticks, where its least green is 100
+-- phase 2 is Green for 99 ticks, where its minimum green is 100
 abbrev pub short_green : List Line
 short_green = second_line 0 Green Dont ∷ second_line 99 Yellow Dont ∷ []
 
@@ -119,7 +119,7 @@ preempted served version = record max8 {
   });
 }
 
--- on the way to the preempt's phases phase 2 is Green for 49 ticks, where 50 are left of its least green
+-- on the way to the preempt's phases phase 2 is Green for 49 ticks, where 50 are left of its minimum green
 abbrev pub short_green_on_entry : List Line
 short_green_on_entry = second_line 0 Green Dont ∷ line_in (Entry 1) 0 49 Yellow Dont ∷ []
 

@@ -80,7 +80,7 @@ module _ (known : List (List ℕ)) where
           pick true = ap (member name e) later ∙ sym (ap put-in is)
           pick false = later
 
-  -- a member of another name is passed over
+  -- a member of another name is skipped
   pub only-pass : (k : List ℕ) (d : Data) → is_among known k ≡ false → (ms : Members) → only known (put k d ms) ≡ only known ms
   only-pass k d none no_members = ap (λ b. if b then member k d no_members else no_members) none
   only-pass k d none (member name e ms) = at (slice_cmp nat_cmp k name) refl (only-pass k d none ms)

@@ -158,7 +158,7 @@ names-faultless v r k lists ms rows s has round cabinet e =
 abbrev pub with_found : Parts → Lists → Parts
 with_found parts lists = record { version = parts.version; setup = setup_with parts.setup lists.cabinets lists.schedule; events = lists.events }
 
--- what is said where there are so many rounds and cabinets, is said where there are as many
+-- what is said where there are this number of rounds and cabinets, is said where there are as many
 at-three : (P : ℕ → ℕ → ℕ → Type 0) (a b c x y z : ℕ) → a ≡ x → b ≡ y → c ≡ z → P a b c → P x y z
 at-three P a b c x y z e f g h = at-same (P x) b c y z f g (subst (λ n. P n b c) e h)
 

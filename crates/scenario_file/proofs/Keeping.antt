@@ -10,7 +10,7 @@ use Rattle.scenario_file.specs.declared.trees.Kept.{Kept}
 use Rattle.scenario_file.specs.declared.trees.Kept.TheVariants.{Whole, Passed}
 use Rattle.scenario_file.specs.Trees.{KeptOf, standing, has_null, seen}
 
--- what was passed over is kept as nothing
+-- what was skipped is kept as nothing
 pub some-passed : (P : Kept → Type 0) (b : Bool) (o : Option Kept) → IfSome o (λ kept. (b ≡ true) × (kept ≡ Passed)) → (b ≡ true → P Passed) → IfSome o P
 some-passed P b None over holds = tt
 some-passed P b (Some kept) over holds = subst P (sym over.1) (holds over.0)
@@ -50,7 +50,7 @@ pub standing-sorted : (d : Data) (kept : Kept) → KeptOf d kept → Sorted d �
 standing-sorted d Passed is sorted = tt
 standing-sorted d (Whole v) is sorted = subst Sorted (sym is.0) sorted
 
--- where no null stands, nothing was passed over
+-- where no null stands, nothing was skipped
 pub all-seen : (passed : List ℕ → Data) (ms : Members) → has_null ms ≡ false → filled (seen passed) ms ≡ ms
 all-seen passed no_members none = refl
 all-seen passed (member name d ms) none = at (as_null d) refl (all-seen passed ms) none

@@ -28,7 +28,7 @@ whole-within most end path (Some (string s)) e le = absurd (cc)
 whole-within most end path (Some (array ds)) e le = absurd (cc)
 whole-within most end path (Some (object ms)) e le = absurd (cc)
 
--- an item of so many rounds and cabinets, with these fields more
+-- an item of this number of rounds and cabinets, with these fields more
 abbrev pub item_shape : List Field → List (List Field) → ℕ → ℕ → Shape
 item_shape fields alternatives rounds cabinets = record { fields = round rounds ∷ cabinet_number cabinets ∷ fields; alternatives = alternatives }
 

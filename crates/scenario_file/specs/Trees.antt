@@ -1,4 +1,4 @@
--- Values that are read as trees: what is kept of a value, and the members of an object of which some were passed over.
+-- Values that are read as trees: what is kept of a value, and the members of an object of which some were skipped.
 use Rattle.std.specs.Prelude.{ℕ, List, ◌≡◌, ◌||◌, Bool, false, is_some, None}
 use Rattle.serde_json.specs.Data.{Data, null, boolean, number, string, array, object, Members, no_members, member}
 use Rattle.serde_json.specs.Find.{as_null}
@@ -21,7 +21,7 @@ abbrev pub has_null : Members → Bool
 has_null no_members = false
 has_null (member name d ms) = is_some (as_null d) || has_null ms
 
--- the value at a name: where null stands, the one that was passed over
+-- the value at a name: where null stands, the one that was skipped
 abbrev pub seen : (List ℕ → Data) → List ℕ → Data → Data
 seen passed name null = passed name
 seen passed name (boolean b) = boolean b

@@ -114,7 +114,7 @@ fn add_member(
     }
 }
 
-/// The compact text of an object of these members, with the lists in their places, and with room for so many bytes.
+/// The compact text of an object of these members, with the lists in their places, and with room for N bytes.
 pub(crate) fn compact(
     alloc: Global,
     frame: &Map<String, Value>,

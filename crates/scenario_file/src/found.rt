@@ -77,7 +77,7 @@ impl Reach {
         }
     }
 
-    /// Whether a scenario of this version, 1 or 2, with so many rounds and cabinets has all that is asked for.
+    /// Whether a scenario of this version, 1 or 2, with this number of rounds and cabinets has all that is asked for.
     pub(crate) fn lies_within(self, version: u32, rounds: u32, cabinets: usize) -> bool
         ensures round { IsTrue result → self.round ≤ rounds }
         ensures cabinet { IsTrue result → self.cabinet ≤ cabinets }

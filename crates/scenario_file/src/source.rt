@@ -91,7 +91,7 @@ fn members_in(value: Value) -> Option<Map<String, Value>>
     }
 }
 
-/// The scenario of these parts, where it is right, with room for so many bytes of its compact text.
+/// The scenario of these parts, where it is right, with room for N bytes of its compact text.
 pub(crate) fn source_of<'a>(alloc: Global, whole: Whole<'a>, room: usize) -> Option<Source<'a>>
     requires read { (d : Data) × IsRead whole d }
     ensures source { IfSome result (λ source. (d : Data) → IsRead whole.entry d → IsSource source d) }

@@ -39,7 +39,7 @@ const MOST_NAMES: usize = 32;
 enum Kept {
     /// The value.
     Whole(Value),
-    /// Nothing: the value has no place in a scenario, and was passed over.
+    /// Nothing: the value has no place in a scenario, and was skipped.
     Passed,
 }
 
@@ -160,7 +160,7 @@ fn put_kept(members: &mut Map<String, Value>, name: String, kept: Kept) -> Optio
     }
 }
 
-/// What is kept of what was passed over; none, where it has no reading.
+/// What is kept of what was skipped; none, where it has no reading.
 fn passed_over(passed: bool) -> Option<Kept>
     ensures { IfSome result (λ kept. (passed ≡ true) × (kept ≡ Kept.Passed)) }
 {

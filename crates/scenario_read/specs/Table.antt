@@ -92,7 +92,7 @@ schedule = optional (codes "schedule") (list_of 0 1000 (object_of entry_shape)) 
 abbrev pub master_shape : Shape
 master_shape = record { fields = clock ∷ poll_every ∷ clock_every ∷ pattern_every ∷ retries ∷ schedule ∷ []; alternatives = [] }
 
--- what happens in a round at a cabinet, where there are so many rounds and cabinets
+-- what happens in a round at a cabinet, where there are this number of rounds and cabinets
 abbrev pub round : ℕ → Field
 round rounds = needed_whole (codes "round") 1 rounds
 

@@ -81,7 +81,7 @@ fn faults_in(
     Ok(found)
 }
 
-/// The faults of the link of a scenario with so many rounds and cabinets; none where none are said.
+/// The faults of the link of a scenario with this number of rounds and cabinets; none where none are said.
 #[tactic(auto, using(crate::proofs::Refusing::refuses_more))]
 pub(crate) fn faults_at(
     alloc: Global,

@@ -90,7 +90,7 @@ fn frames_in(
     Ok(found)
 }
 
-/// The frames of a scenario with so many rounds and cabinets; none where none are said.
+/// The frames of a scenario with this number of rounds and cabinets; none where none are said.
 #[tactic(auto, using(crate::proofs::Refusing::refuses_more))]
 pub(crate) fn frames_at(
     alloc: Global,

@@ -152,7 +152,7 @@ fn inputs_in(
     Ok(found)
 }
 
-/// The inputs of a scenario with so many rounds and cabinets; none where none are said.
+/// The inputs of a scenario with this number of rounds and cabinets; none where none are said.
 #[tactic(auto, using(crate::proofs::Refusing::refuses_more))]
 pub(crate) fn inputs_at(
     alloc: Global,

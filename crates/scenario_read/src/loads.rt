@@ -131,7 +131,7 @@ fn loads_in(
     Ok(found)
 }
 
-/// The loads of a scenario with so many rounds and cabinets; none where none are said.
+/// The loads of a scenario with this number of rounds and cabinets; none where none are said.
 #[tactic(auto, using(crate::proofs::Refusing::refuses_more))]
 pub(crate) fn loads_at(
     alloc: Global,

@@ -1,4 +1,4 @@
--- What a session answers: lines of a trace, or why a request can't be taken. The lines are those that a run has: what
+-- What a session answers: lines of a trace, or why a request isn't accepted. The lines are those that a run has: what
 -- an item gives, the journals at the end of a round, the head of the next one.
 use Rattle.std.specs.Prelude.{ℕ, ◌+◌, ◌==◌, nat_le, if◌then◌else◌, List, [], ◌∷◌, ◌++◌, length, Result, Ok, Err}
 use Rattle.trace_text.specs.declared.lines.Line.{Line}
@@ -78,7 +78,7 @@ abbrev pub with_room_for : SessionHistory → Result Request Untaken → Result 
 with_room_for h (Ok request) = with_room h request
 with_room_for h (Err untaken) = Err untaken
 
--- what a line asks in a session, or why it can't be taken
+-- what a line asks in a session, or why it isn't accepted
 abbrev pub taken : ScenarioContent → SessionHistory → List ℕ → Result Request Untaken
 taken s h line = with_room_for h (request_of (length s.cabinets) (ticks_left s h) line)
 

@@ -18,7 +18,7 @@ requests_in input = whole_lines (behind_first input)
 abbrev pub dot : List ℕ
 dot = 46 ∷ 10 ∷ []
 
--- the text of an answer: its lines, or one that says why a request can't be taken
+-- the text of an answer: its lines, or one that says why a request isn't accepted
 abbrev pub answer_text : Answer → List ℕ
 answer_text (Lines lines) = lines_text lines ++ dot
 answer_text (NotTaken untaken) = 63 ∷ 32 ∷ (untaken_word untaken ++ 10 ∷ dot)

@@ -56,7 +56,7 @@ ends-held old (Some bytes) (Some others) held is ended lacks =
     subst HasNoLine is (subst (λ (ys : List ℕ). Lacks 10 (held ++ ys)) (sym none) (subst (Lacks 10) (sym (append-nil held)) lacks))
 ends-held old (Some bytes) None held is ended lacks = absurd (cc)
 
--- more than 4,096 bytes of a line are passed over
+-- more than 4,096 bytes of a line are skipped
 pub passes-first : (held : List ℕ) (left : Option (List ℕ)) → Lacks 10 held → 4096 < length held → PassesOver (ahead_of held left) left
 passes-first held None lacks long = refl
 passes-first held (Some bytes) lacks long = (held, bytes, refl, refl, lacks, long)

@@ -53,7 +53,7 @@ few_octets (Err error) = None
 abbrev pub octets_of : List ℕ → Option (List ℕ)
 octets_of word = few_octets (decode_of word)
 
--- what was read at a word, or why it can't be taken
+-- what was read at a word, or why it isn't accepted
 abbrev pub asked_for : {A : Type 0} → Untaken → Option A → (A → Result Request Untaken) → Result Request Untaken
 asked_for untaken None go_on = Err untaken
 asked_for untaken (Some found) go_on = go_on found
@@ -112,7 +112,7 @@ abbrev pub request_of : ℕ → ℕ → List ℕ → Result Request Untaken
 request_of cabinets left line =
     if nat_le (length line) 4096 then request_of_words cabinets left (words_of line) else Err NoRequest
 
--- the word that says why a request can't be taken
+-- the word that says why a request isn't accepted
 abbrev pub untaken_word : Untaken → List ℕ
 untaken_word NoRequest = codes "request"
 untaken_word Cabinet = codes "cabinet"

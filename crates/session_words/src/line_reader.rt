@@ -174,7 +174,7 @@ impl LineReader {
         }
     }
 
-    /// Passes over a line, more than 4,096 bytes of which are held.
+    /// Skips a line, more than 4,096 bytes of which are held.
     fn pass_over<S: Source>(&mut self, source: &mut S) -> Result<Next, LineStop>
         requires unended { Lacks 10 (held_of self.old) }
         requires long { 4096 < length (held_of self.old) }

@@ -27,7 +27,7 @@ all-below-at test (suc n) all k below =
       | inr (t, other) ↦ all-below-at test n parts.1 k (omega arith)
     ]
 
--- the cell holds what may stand in it
+-- the cell holds an allowed value
 fits-at : Tables → Cell → Bool
 fits-at t cell = is_ok (fits_of cell (value_at t cell))
 

@@ -5,7 +5,7 @@ use Rattle.sig_tables.specs.Tables.{clearance}
 use Rattle.sig_tables.specs.Slots.{is_coordinated, split_time, force_point, least_service, window}
 
 -- phase q can still be served within its slot where it begins k ticks after this counter of pattern n: past the window,
--- and its least service ends by its force point
+-- and its minimum service ends by its force point
 abbrev pub fits : Tables → ℕ → ℕ → ℕ → ℕ → Bool
 fits t n counter k q = nat_le (counter + k + least_service t q) (force_point t n q) && nat_le (window t n) counter
 

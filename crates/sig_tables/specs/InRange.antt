@@ -1,4 +1,4 @@
--- The ranges of the numbers in the rows of the tables, where each cell holds what may stand in it.
+-- The ranges of the numbers in the rows of the tables, where each cell holds an allowed value.
 use Rattle.std.specs.Prelude.{ℕ, ◌≤◌, length}
 use Rattle.sig_tables.specs.declared.tables.PhaseTimes.{PhaseTimes}
 use Rattle.sig_tables.specs.declared.tables.Pattern.{Pattern}

@@ -1,4 +1,4 @@
--- Tables after cells were put in order; and tables whose every cell holds what may stand in it.
+-- Tables after cells were put in order; and tables whose every cell holds an allowed value.
 use Rattle.std.specs.Prelude.{◌≡◌, ◌&&◌, if◌then◌else◌, List, [], ◌∷◌, Ok, is_ok}
 use Rattle.sig_tables.specs.declared.tables.Tables.{Tables}
 use Rattle.sig_tables.specs.declared.cells.Cell.{Cell}
@@ -19,6 +19,6 @@ abbrev pub with_cells : Tables → List (Cell × Content) → Tables
 with_cells t [] = t
 with_cells t (put ∷ puts) = with_cells (with_put t put) puts
 
--- each cell of the tables holds what may stand in it
+-- each cell of the tables holds an allowed value
 abbrev pub EachFits : Tables → Type 0
 EachFits t = (cell : Cell) → IsCell cell → fits_of cell (value_at t cell) ≡ Ok tt

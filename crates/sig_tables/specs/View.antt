@@ -32,7 +32,7 @@ pub record View : Type 0 where
   pub opposed : List ℕ
   pub ended : List ℕ
 
--- Green for the least green that was in force at its first tick, and no walk or pedestrian clearance runs on
+-- Green for the minimum green that was in force at its first tick, and no walk or pedestrian clearance runs on
 abbrev pub is_served : Tables → List Moment → ℕ → Bool
 is_served now past p =
     nat_le (least_green (latched p Green now past) p) (run p Green past)

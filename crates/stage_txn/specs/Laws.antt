@@ -40,7 +40,7 @@ pub record IsQuiet (past : List Answered) : Type 0 where
 abbrev pub NothingAfterDone : List Answered → Type 0
 NothingAfterDone past = stage_state past ≡ Done → IsQuiet past
 
--- each cell of the tables in force at each begin holds what may stand in it
+-- each cell of the tables in force at each begin holds an allowed value
 abbrev pub BeginInRange : List Call → Type 0
 BeginInRange [] = Unit {0}
 BeginInRange (Begin id in_force ∷ calls) = EachFits in_force × BeginInRange calls

@@ -197,7 +197,7 @@ module _ (s : ScenarioContent) where
         (front_then old mid new _ _ _ is.written written);
   }
 
--- a line that was passed over, since it has more than 4,096 bytes; where the source tells none, some such line
+-- a line that was skipped, since it has more than 4,096 bytes; where the source tells none, some such line
 long_line : (before behind : Option (List ℕ)) → PassesLong before behind → (line : List ℕ) × GivesLine before behind line × (4096 < length line)
 long_line None behind passes = (replicate 4097 0, passes, omega (arith, length-replicate {A = ℕ} 4097 0))
 long_line (Some bytes) behind (line, rest, told, cut, long) = (line, (rest, told, cut), long)

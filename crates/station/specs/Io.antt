@@ -22,7 +22,7 @@ abbrev pub io_of : {S K : Type 0} → (S → Option (List ℕ)) → (S → ℕ) 
 io_of left reads written writes source source_now sink sink_now =
     io (left source) (left source_now) (Rises (reads source) (reads source_now)) (written sink) (written sink_now) (Rises (writes sink) (writes sink_now))
 
--- no count of faults falls; and once all is done, an exact one is as it was, so that no fault was passed over
+-- no count of faults falls; and once all is done, an exact one is as it was, so that no fault was ignored
 pub record Counts (status : Status) (exact : Bool) (faults faults_now : ℕ) : Type 0 where
   pub kept : faults ≤ faults_now
   pub done : status ≡ Done → Stays exact faults faults_now

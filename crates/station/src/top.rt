@@ -140,7 +140,7 @@ pub fn station<R: Threads + Sync, S: Source, K: Sink, G: Gate + Sync>(
     ensures answers { Answers (map string_bytes words.now.items) result
         (io_of S.left S.faults K.written K.faults source.old source.new sink.old sink.new) }
 
-    // No count of faults falls. Done: where a count is exact, it is as it was, so that no fault was passed over.
+    // No count of faults falls. Done: where a count is exact, it is as it was, so that no fault was ignored.
     ensures reads { Counts result S.counts_exactly (S.faults source.old) (S.faults source.new) }
     ensures writes { Counts result K.counts_exactly (K.faults sink.old) (K.faults sink.new) }
 {

@@ -232,7 +232,7 @@ frame-again past now was mode none wide long clear dark calls =
     (calls p h))
     ∙ timed-free past now mode
 
--- a frame of Free is not in step with a pattern
+-- a frame of Free is not coordinated in a pattern
 pub free-apart : (f : Frame) (version n : ℕ) → f.mode ≡ Free → is_in_step f version n ≡ false
 free-apart f version n e = rw e refl
 

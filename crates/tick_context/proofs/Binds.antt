@@ -38,7 +38,7 @@ use Rattle.tick_context.specs.declared.active_pattern.ActivePattern.{ActivePatte
 use Rattle.tick_context.specs.Modes.{is_coord, has_pattern}
 use Rattle.tick_context.specs.Binds.{ActivePatternIs, IsBound}
 
--- a mode in step with a pattern is that of some pattern, and binds it; any other binds none
+-- a mode coordinated in a pattern is that of some pattern, and binds it; any other binds none
 pub in-coord : (m : Mode) → is_coord m ≡ true → (n : ℕ) × (m ≡ Coord n)
 in-coord (Coord n) e = (n, refl)
 in-coord Start e = absurd (false≢true e)

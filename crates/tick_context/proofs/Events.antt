@@ -53,7 +53,7 @@ unit_commands-kept o past t e k = record {
   lose = k.lose;
 }
 
--- no frame is in step with a pattern of tables that came after it
+-- no frame is coordinated in a pattern of tables that came after it
 pub not-yet : (f : Frame) (v n : ℕ) → f.version ≤ v → is_in_step f (v + 1) n ≡ true → ⊥
 not-yet f v n old e =
     let same : f.version ≡ v + 1 = eq-true f.version (v + 1) (and_parts (same_mode f.mode (Coord n)) (f.version == v + 1) e).1 in

@@ -1,4 +1,5 @@
--- The next tick of a cabinet that stays in step with a pattern: the pattern stays in command, and the counter goes on by one.
+-- The next tick of a cabinet that stays coordinated in a pattern: the pattern stays in command, and the counter
+-- advances by one.
 use Rattle.std.proofs.Common.{◌≡◌, ◌≢◌, ◌<◌, ◌≤◌, ◌+◌, ◌-◌, ◌*◌, ◌%◌, ◌&&◌, ◌⊎◌, ◌==◌, not, min, nat_le, if◌then◌else◌, ℕ, suc, Bool, true, false}
 use Rattle.std.proofs.Common.{List, [], ◌∷◌, Option, None, refl, sym, ◌∙◌, ap, arith, inl, inr}
 use Rattle.std.proofs.lemmas.Bool.{ne_eqb, eq-eqb, lt-leb, le-leb, and_parts, leb-true}
@@ -73,7 +74,7 @@ no-flash t n d =
     let most : n ≤ 48 = leb-true n 48 (and_parts (nat_le 1 n) (nat_le n 48) parts.0).1 in
     λ e. absurd (omega (arith, most, e))
 
--- the frame is in step with the pattern
+-- the frame is coordinated in the pattern
 pub step-in : (f : Frame) (version n : ℕ) → f.mode ≡ Coord n → f.version ≡ version → is_in_step f version n ≡ true
 step-in f version n e v =
     let same : (n == n) ≡ true = (Decides-eqb n n).1 refl in

@@ -73,7 +73,7 @@ unit_commands-on o new past m by stands saw fresh even few =
         let small : (clock + 1) % 864000 ≡ clock + 1 = omega arith in
         sym small ∙ ap (λ (n : ℕ). n % 864000) (sym sum) ∙ sym k
 
--- what has come after so many ticks more
+-- what has come after N ticks more
 abbrev pub after : ℕ → Past → Past
 after zero past = past
 after (suc k) past = after k (with_moment past (next_moment past))

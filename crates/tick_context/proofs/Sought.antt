@@ -109,7 +109,7 @@ chosen-named (Seek n) t v f h = h.0
 chosen-named (Coord n) t v f h = h.0
 chosen-named _ t v f h = tt
 
--- a frame in step with a pattern is that of a tick that was, or its pickup
+-- a frame coordinated in a pattern is that of a tick that was, or its pickup
 pub reached-from : (mode : Mode) (t : Tables) (veh : List Colour) (n : ℕ) → same_mode (mode_reached mode t veh) (Coord n) ≡ true
     → (mode ≡ Coord n) ⊎ (mode ≡ Seek n)
 reached-from (Coord k) t veh n h = inl (ap Coord (eq-true k n h))

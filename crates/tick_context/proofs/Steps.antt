@@ -1,4 +1,4 @@
--- What a tick in step with a pattern, or on the way to one, knows of the last frame.
+-- What a tick coordinated in a pattern, or on the way to one, knows of the last frame.
 use Rattle.std.proofs.Common.{◌≡◌, ℕ, true, false, subst}
 use Rattle.sig_types.specs.declared.frame.Mode.{Mode}
 use Rattle.sig_types.specs.declared.frame.Mode.TheVariants.{Seek, Coord}

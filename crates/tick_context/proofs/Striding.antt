@@ -1,4 +1,4 @@
--- Ticks that are passed over, in histories: what has come after them, and that their frames are plain.
+-- Ticks that are skipped, in histories: what has come after them, and that their frames are plain.
 use Rattle.std.proofs.Common.{◌≡◌, ◌≢◌, ◌<◌, ◌≤◌, ◌+◌, ◌-◌, ◌==◌, nat_le, ℕ, zero, suc, true, false, inl, inr}
 use Rattle.std.proofs.Common.{Bool, List, [], ◌∷◌, refl, sym, ◌∙◌, ap, arith, subst}
 use Rattle.std.proofs.lemmas.Bool.{false≢true, cases_Bool, leb-true, leb-false}
@@ -95,7 +95,7 @@ lasts-plain k n mode h less l =
 pub told-by : (last next f g : Frame) (b : Bool) → b ≡ has_line last next → last ≡ f → next ≡ g → has_line f g ≡ b
 told-by last next f g b e k l = rw (← k, ← l) (sym e)
 
--- after ticks with plain frames, one more and some that were passed over, all have plain frames
+-- after ticks with plain frames, one more and some that were skipped, all have plain frames
 pub plain-on : (h : History) (done more : ℕ) → ((k : ℕ) → k ≤ done → is_told h k ≡ false) → is_told h (suc done) ≡ false
     → ((j : ℕ) → j < more → is_told (ticked (ticks_more done h)) (suc j) ≡ false) → (k : ℕ) → k ≤ done + 1 + more → is_told h k ≡ false
 plain-on h done more before now then k within = elim (cases_Bool (nat_le k done)) [

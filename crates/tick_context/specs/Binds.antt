@@ -1,4 +1,4 @@
--- What is kept of the pattern that a cabinet seeks or is in step with.
+-- What is kept of the pattern that a cabinet seeks or is coordinated in.
 use Rattle.std.specs.Prelude.{ℕ, ◌≡◌, ◌≢◌, true}
 use Rattle.sig_types.specs.declared.frame.Mode.{Mode}
 use Rattle.sig_types.specs.declared.frame.Mode.TheVariants.{Seek, Coord}

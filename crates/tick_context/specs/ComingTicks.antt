@@ -9,7 +9,7 @@ use Rattle.tick_context.specs.Modes.{is_coord}
 use Rattle.tick_context.specs.Passed.{planned_target}
 use Rattle.tick_context.specs.UnitCommands.{most}
 
--- a cabinet in this mode runs free, or is in step with the pattern that is kept, 0 being none
+-- a cabinet in this mode runs free, or is coordinated in the pattern that is kept, 0 being none
 abbrev pub is_bound_in : Mode → ℕ → Bool
 is_bound_in Free kept = true
 is_bound_in (Coord n) kept = not (n == 0) && n == kept

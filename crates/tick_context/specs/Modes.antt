@@ -3,7 +3,7 @@ use Rattle.std.specs.Prelude.{Bool, true, false}
 use Rattle.sig_types.specs.declared.frame.Mode.{Mode}
 use Rattle.sig_types.specs.declared.frame.Mode.TheVariants.{Free, Seek, Coord, Flash}
 
--- a cabinet in this mode is in step with a pattern
+-- a cabinet in this mode is coordinated in a pattern
 abbrev pub is_coord : Mode → Bool
 is_coord (Coord n) = true
 is_coord mode = false

@@ -51,7 +51,7 @@ fn no_plan() -> Plan
     }
 }
 
-/// The least service of each phase, in ticks.
+/// The minimum service of each phase, in ticks.
 fn services(tables: &Tables) -> [u32; 16]
     ensures { EachIs result (least_service tables.now) }
 {

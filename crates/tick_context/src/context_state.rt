@@ -72,7 +72,8 @@ impl TickContext {
         goal(&self.tables, mode, self.active_pattern.coordinated_pair())
     }
 
-    /// What the clock asks of the counter, in ticks: that of the pattern which the mode seeks or is in step with, else 0.
+    /// What the clock asks of the counter, in ticks: that of the pattern which the mode seeks or is coordinated in,
+    /// else 0.
     fn target(&self, mode: Mode, clock: u32) -> u32
         requires of_day { clock < 864000 }
         ensures target { (past : Past) → ContextStands self.now past → IsBound self.now.active_pattern past.tables mode
@@ -119,7 +120,7 @@ impl TickContext {
         }
     }
 
-    /// The priority request that is active at this tick, if one is: none but in step with a pattern.
+    /// The priority request that is active at this tick, if one is: none except while coordinated in a pattern.
     fn active_request(&self, mode: Mode) -> Option<u8>
         requires few { told_ticks self.now < 4294967295 }
         ensures active { (past : Past) → ContextStands self.now past → IsBound self.now.active_pattern past.tables mode

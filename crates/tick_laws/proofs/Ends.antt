@@ -1,4 +1,4 @@
--- Clearances that have ended lasted their time, and greens at least their least green.
+-- Clearances that have ended lasted their time, and greens at least their minimum green.
 use Rattle.std.proofs.Common.{◌≡◌, ◌≢◌, ◌≤◌, inl, inr, ℕ, true, false, List, [], refl, sym, ◌∙◌, ap, subst}
 use Rattle.std.proofs.lemmas.Bool.Decides.{Decides-eqb}
 use Rattle.sig_types.specs.declared.frame.Colour.{Colour}

@@ -136,7 +136,7 @@ signal-step t p l past m sm stands = elim sm.how [
     ]
     by Dont e h g = subst (λ (x : Ped). SignalStands t p (m ∷ l ∷ past) x) (sym h) tt
 
--- the least service holds the least green, and the walk with its clearance where there is one
+-- the minimum service holds the minimum green, and the walk with its clearance where there is one
 pub service-green : (t : Tables) (p : ℕ) → least_green t p ≤ least_service t p
 service-green t p = elim (cases_Bool (nat_le 1 (row t p).walk)) [
   | inl e ↦ let is : least_service t p ≡ max (least_green t p) (10 * ((row t p).walk + (row t p).pedestrian_clear)) = rw e refl in
@@ -159,7 +159,7 @@ service-walk t p some =
     numbers : (a w c s : ℕ) → s ≡ max a (10 * (w + c)) → 10 * w + 10 * c ≤ s
     numbers a w c s e = omega arith
 
--- a Green that has run its least service shows steady don't walk at the next tick
+-- a Green that has run its minimum service shows steady don't walk at the next tick
 pub dont-when_served : (t : Tables) (p : ℕ) (l : Moment) (past : List Moment) → ((row t p).walk ≡ 0 → (row t p).pedestrian_clear ≡ 0)
     → SignalStands t p (l ∷ past) (signal_of l.frame p) → least_service t p ≤ run p Green (l ∷ past)
     → signal_runs_on p t (l ∷ past) (signal_of l.frame p) ≡ Dont
@@ -193,7 +193,7 @@ dont-when_served t p l past paired stands served = by (signal_of l.frame p) refl
         walks w c paired some = elim (cases_lt w 1) [ inl z ↦ absurd (let none : c ≡ 0 = paired (omega arith) in omega arith) | inr h ↦ h ]
     by Dont e g = refl
 
--- at a force-off the phase is served: its least green is over, and so are its walk and pedestrian clearance
+-- at a force-off the phase is served: its minimum green is over, and so are its walk and pedestrian clearance
 pub served-at_force_off : (t : Tables) (n p c d : ℕ) (l : Moment) (past : List Moment) → Other t n p → Steps (cycle_time t n) (window t n) c d
     → ((row t p).walk ≡ 0 → (row t p).pedestrian_clear ≡ 0) → OtherGreen t n p c (l ∷ past) → SignalStands t p (l ∷ past) (signal_of l.frame p)
     → force_point t n p ≤ d → is_served t (l ∷ past) p ≡ true

@@ -1,4 +1,4 @@
--- A tick is in step with a pattern only where the frame before it is, or where it picks the pattern up.
+-- A tick is coordinated in a pattern only where the frame before it is, or where it picks the pattern up.
 use Rattle.std.proofs.Common.{◌≡◌, ◌⊎◌, inl, inr, ℕ, Bool, true, false, ◌==◌, if◌then◌else◌, List, Option, Some, None, refl, sym, ◌∙◌, ap}
 use Rattle.std.proofs.lemmas.Bool.{false≢true}
 use Rattle.sig_types.specs.declared.frame.Colour.{Colour}

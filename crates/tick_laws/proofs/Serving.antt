@@ -38,7 +38,8 @@ use Rattle.tick_laws.proofs.InStep.{GoesInStep, step-of, goes-on, picks-up, show
 use Rattle.tick_laws.proofs.Apart.{Holds, holds}
 use Rattle.tick_laws.proofs.Signals.{last-green}
 
--- what is carried from event to event: where the last frame is in step with a pattern of the tables in force, the facts of the step
+-- what is carried from event to event: where the last frame is coordinated in a pattern of the tables in force, the
+-- facts of the step
 record Carried (t : Tables) (version : ℕ) (moments : List Moment) : Type 0 where
   numbered : (last_frame moments).version ≤ version
   steps : (n : ℕ) → is_in_step (last_frame moments) version n ≡ true → InStep t n moments

@@ -1,5 +1,6 @@
--- A cabinet in step with a pattern: what its phases show by the counter of the cycle, and what is known of how long they have
--- shown it (FHWA Signal Timing Manual: coordination, force-off, local zero). Counters are in ticks from local zero.
+-- A cabinet coordinated in a pattern: what its phases show by the counter of the cycle, and what is known of how long
+-- they have shown it (FHWA Signal Timing Manual: coordination, force-off, local zero). Counters are in ticks from local
+-- zero.
 use Rattle.std.specs.Prelude.{ℕ, ◌≡◌, ◌≢◌, ◌<◌, ◌⊎◌, true, false, List}
 use Rattle.sig_types.specs.declared.frame.Colour.TheVariants.{Green, Red}
 use Rattle.sig_types.specs.declared.frame.Frame.{Frame}

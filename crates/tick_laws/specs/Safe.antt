@@ -59,7 +59,7 @@ abbrev pub least_until : Moment → ℕ → ℕ → ℕ
 least_until m p time =
     if is_in (goal_in m.tables m.frame.mode) p then time else lesser_green m.tables (stage_of m.frame.mode) time
 
--- where the green of p ends at m, it lasted at least the least green in force at its first tick
+-- where the green of p ends at m, it lasted at least the minimum green in force at its first tick
 abbrev pub GreenEnds : List Moment → Moment → ℕ → Type 0
 GreenEnds past m p = colour_of (last_frame past) p ≡ Green → colour_of m.frame p ≢ Green
     → least_until m p (least_green (latched p Green m.tables past) p) ≤ run p Green past

@@ -90,5 +90,3 @@ def between(old: Street, new: Street, round_: int, flash: bool) -> list[dict]:
         except NoWay as why:
             raise NoWay(f"{new.names.called(number)}: {why}") from None
     return found
-
-

@@ -4,7 +4,7 @@ use Rattle.session_words.specs.Unread.{held_of, unread, PassesOver}
 use Rattle.session_words.proofs.Held.{HasRead}
 use Rattle.session_words.proofs.line_reader.LineReader.pass_over.Given as goal
 
--- nothing is held, and more than 4,096 bytes of the line were passed over
+-- nothing is held, and more than 4,096 bytes of the line were skipped
 abbrev pub invariant-pieces : goal.invariant-pieces
 invariant-pieces g l = record {
   empty : held_of l.self ≡ [];
