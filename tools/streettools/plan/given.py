@@ -82,7 +82,7 @@ class Given:
         for key, it in self.below(name).table.items():
             numbers = key.replace(",", " ").split()
             if not numbers or not all(is_place(word, most) for word in numbers):
-                self.fault(f"{key!r} is no {name} from 1 to {most}", name)
+                self.fault(f"{key!r} is not a {name} from 1 to {most}", name)
             elif not isinstance(it, dict):
                 self.fault("a table is wanted here", f"{name} {key}")
             else:

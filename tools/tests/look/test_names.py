@@ -136,7 +136,9 @@ def test_the_event_log_has_no_row_of_a_partner(planned, capsys):
     ran = run(*words, "--names", names, given=trace)
     gone = {",".join(line.split(",")[1:]) for line in set(whole) - set(ran.stdout.splitlines())}
     assert gone == {"2,0,6", "2,1,6", "2,139,50", "2,141,40"}
-    words = "look: Main St & $1 Alley (cabinet 2): left out: phases 6 and 8, placeholder phases that only the rings need\n"
+    words = (
+        "look: Main St & $1 Alley (cabinet 2): left out: phases 6 and 8, placeholder phases that only the rings need\n"
+    )
     assert (ran.returncode, ran.stderr) == (0, words)
 
 

@@ -24,7 +24,7 @@ from .random_tables import cells_of, wrong_cell  # noqa: E402
 
 CASES = {
     1: (3, "[intersection.phase]\n3 = {ring = 4}", "phase 3 is enabled, but its ring is 4"),
-    2: (2, "[intersection.phase]\n2 = {concurrent = [5, 6, 17]}", "phase 2 may be on with 17, which is no phase"),
+    2: (2, "[intersection.phase]\n2 = {concurrent = [5, 6, 17]}", "phase 2 may be on with 17, which is not a phase"),
     3: (
         1,
         "[intersection.phase]\n5 = {concurrent = [2]}",
@@ -57,7 +57,8 @@ CASES = {
     10: (4, "[intersection.phase]\n4 = {yellow = 2.9}", "phase 4 has a yellow change of 2.9 s; it must be 3 s or more"),
     11: (
         2, "[intersection.phase]\n2 = {red_revert = 9.6}",
-        "phase 2 has a red revert of 9.6 s, but phase 1 may have ended after 9.5 s (minimum green 5 + yellow 3.5 + red 1)",
+        "phase 2 has a red revert of 9.6 s, but phase 1 may have ended after 9.5 s "
+        "(minimum green 5 + yellow 3.5 + red 1)",
     ),
     12: (2, '[intersection.phase]\n4 = {startup = "green"}', "phase 2 starts up green, and so does phase 4"),
     13: (0, "[intersection.coordination]\nskip_limit = 0", "skip_limit is 0; it must be 0.1 s or more"),
@@ -162,8 +163,8 @@ def test_a_download_that_moves_a_phase_is_told_with_rule_21():
     found = check.findings(sources.Source("street.json", street=reading.Street(scenario, reading.names.Names())))
     assert [(it.level, it.rule) for it in found if it.level is not Level.NOTE] == [(Level.WARNING, 21)]
     assert (
-        "download 1, sent in round 1, will be refused: the download turns phase 1 off; a cabinet takes that in flash "
-        "alone"
+        "download 1, sent in round 1, will be refused: the download turns phase 1 off; a cabinet accepts that only in "
+        "flash"
         in found[0].words
     )
 

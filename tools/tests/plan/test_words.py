@@ -27,7 +27,7 @@ SCENARIO = {"version": 1, "rounds": 10, "ticks": 10, "cabinets": [{}]}
         ('{"a": 1e999}', (1, 7), "a number that is too large"),
         ('{"a": "\\ud800"}', (1, 8), "half a character"),
         ("[" * 128, (1, 128), "more than 127 deep"),
-        ("\ufeff{}", (1, 1), "a byte order mark stands before the text"),
+        ("\ufeff{}", (1, 1), "a byte order mark precedes the text"),
     ],
 )
 def test_a_text_that_is_no_json_has_line_column_and_what_was_expected(text, place, words):
@@ -39,7 +39,7 @@ def test_a_text_that_is_no_json_has_line_column_and_what_was_expected(text, plac
 
 def test_octets_that_are_no_text_are_told():
     """An octet of another encoding, in line 2."""
-    with pytest.raises(jsontext.NoJson, match="line 2, column 5: the octet e9 is no UTF-8"):
+    with pytest.raises(jsontext.NoJson, match="line 2, column 5: the byte e9 is not UTF-8"):
         jsontext.read(b'{\n"caf\xe9": 1}')
 
 
@@ -233,4 +233,4 @@ def test_a_split_that_several_phases_can_mend_together_is_told_so():
     told = findings(sheet, Level.ERROR)
     assert len(told) == 2 and all("give it 4 s more; no single phase of its ring" in it for it in told)
     told = findings(sheet.replace("= 12", "= 10").replace("cycle = 80", "cycle = 76"), Level.ERROR)
-    assert len(told) == 2 and all("a longer cycle than 76 s is needed" in it for it in told)
+    assert len(told) == 2 and all("it needs a longer cycle than 76 s" in it for it in told)
