@@ -58,8 +58,8 @@ def column_of(words: Any) -> Column:
     if measure is None:
         near = next(iter(difflib.get_close_matches(name, measures.ALL, 1)), None)
         raise Fault(
-            f"study: measures: there is no {name}"
-            + (f": is {near} meant?" if near else "; ./arterial sweep measures lists them")
+            f"study: unknown measure {name!r}"
+            + (f"; did you mean {near}?" if near else "; ./arterial sweep measures lists them")
         )
     is_phase, is_street = measure.scope in (Scope.PHASE, Scope.TRAFFIC), measure.scope is Scope.STREET
     if (phase or each == "phase") and not is_phase:

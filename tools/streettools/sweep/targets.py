@@ -95,7 +95,7 @@ def followed(there: Any, step: str | int, path: str) -> Any:
 def absent(path: str) -> Fault:
     """Returns the refusal of a path that isn't there."""
     return Fault(
-        f"study: there is no {path} in the scenario (places in lists are counted from 0, as in cabinets[0].clock)"
+        f"study: the scenario has no {path} (places in lists are counted from 0, as in cabinets[0].clock)"
     )
 
 

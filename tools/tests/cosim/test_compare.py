@@ -66,7 +66,7 @@ def test_sumos_nema_controller_runs_the_same_street(tmp_path):
         (HEAD.replace("warm = 5", "warm = 30") + plan("one") + plan("two"), "warm leaves nothing"),
         (HEAD.replace("[1, 2]", "[1, 1]") + plan("one") + plan("two"), "seeds has one twice"),
         (HEAD + plan("one") + plan("two", 'controller = "nema"'), "a phase with traffic on each side of both rings"),
-        (HEAD + plan("one") + plan("two", "offset = [1]"), "offset is unknown: is offsets meant?"),
+        (HEAD + plan("one") + plan("two", "offset = [1]"), "offset is unknown; did you mean offsets?"),
         (HEAD + plan("one") + plan("two", "offsets = [1]"), "offsets need a pattern in command"),
     ],
 )

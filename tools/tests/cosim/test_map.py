@@ -228,7 +228,7 @@ def test_a_question_left_in_a_map_is_refused(tee):
 @needs_sumo
 def test_an_unknown_name_in_a_map_is_refused(tee):
     change(tee / "tee.map.toml", "cabinet = 1", "cabinet = 1\ncabinets = 1")
-    assert "cabinets is unknown: is cabinet meant?" in refused(tee)
+    assert "cabinets is unknown; did you mean cabinet?" in refused(tee)
 
 
 @needs_sumo

@@ -98,7 +98,7 @@ def test_files_that_are_not_there_and_texts_that_are_no_toml_are_told(folder):
     assert (ran.returncode, ran.stderr) == (1, "cosim: none.toml: No such file or directory\n")
     (folder / "one.volumes.toml").write_text("title = ")
     ran = queues(folder)
-    assert ran.returncode == 2 and ran.stderr.startswith("cosim: one.volumes.toml: no TOML: ")
+    assert ran.returncode == 2 and ran.stderr.startswith("cosim: one.volumes.toml: not valid TOML: ")
     ran = called(folder, "draw", "purdue", "none", "-o", "a.svg")
     assert ran.returncode == 1 and ran.stderr.endswith(": -o of the run writes it\n")
 

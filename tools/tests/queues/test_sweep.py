@@ -74,7 +74,7 @@ def test_the_factor_of_the_volumes_may_vary():
 @pytest.mark.parametrize(
     ("more", "line"),
     [
-        ({"volumes": {"file": "one.volumes.toml", "fil": 1}}, "study: volumes.fil is unknown: is file meant?"),
+        ({"volumes": {"file": "one.volumes.toml", "fil": 1}}, "study: volumes.fil is unknown; did you mean file?"),
         ({"traffic": {"flow": [{"cabinet": 1, "phase": 2, "vehicles": 9}]}},
          "study: traffic.flow and volumes exclude each other: each defines what the detectors see"),
     ],

@@ -94,7 +94,7 @@ def changed(one: str, other: str, count: int = 1) -> str:
         ),
         (changed('until = "8:00"', 'until = "7:00"').replace('"07:00" = 1\n', ""),
          "volumes: profile day covers 6:30 to 7:00, and the run is from 7:00 to 7:01"),
-        (changed('profile = "day"', 'profile = "dai"'), "volumes: EBT of cabinet 1: no profile dai: is day meant?"),
+        (changed('profile = "day"', 'profile = "dai"'), "volumes: EBT of cabinet 1: no profile dai; did you mean day?"),
         (
             changed('to = "2 EB"', 'to = "2 WX"'),
             "volumes: EBT of cabinet 1 goes to 2 WX, an approach that doesn't exist",
@@ -110,7 +110,7 @@ def changed(one: str, other: str, count: int = 1) -> str:
         (changed('"WBT"', '"EBT"'), "volumes: cabinet 1 has two movements EBT"),
         (changed("volume = 500", "volume = 0"),
          "volumes: approach EB of cabinet 2 has no volumes, which are the shares of those who come from elsewhere"),
-        (changed("lanes = 2", "lane = 2"), "volumes: cabinet[0].movements[0].lane is unknown: is lanes meant?"),
+        (changed("lanes = 2", "lane = 2"), "volumes: cabinet[0].movements[0].lane is unknown; did you mean lanes?"),
         (
             changed("headway = 1.5", "headway = 40"),
             "volumes: NBT of cabinet 1: 100 vehicles an hour can't come 40 s apart in 1 lane",
@@ -119,7 +119,7 @@ def changed(one: str, other: str, count: int = 1) -> str:
             changed("{ phase = 4, persons", "{ phase = 1, persons"),
             "volumes: crossing of cabinet 1: phase 1 of cabinet 1 has no walk",
         ),
-        (changed("title", "titel"), "volumes: titel is unknown: is title meant?"),
+        (changed("title", "titel"), "volumes: titel is unknown; did you mean title?"),
     ],
 )  # fmt: skip
 def test_what_does_not_fit_is_refused_in_one_line(text, line):
@@ -138,7 +138,7 @@ def test_vehicles_that_never_leave_are_refused():
 
 @pytest.mark.parametrize("text", [b"{", b"[]", b'{"cabinets":[]}', b'{"cabinets":[{}],"rounds":"1","ticks":10}'])
 def test_what_is_no_scenario_is_refused(text):
-    with pytest.raises(Fault, match="street.json is no scenario"):
+    with pytest.raises(Fault, match="street.json is not a valid scenario"):
         study.read_scenario(text, "street.json")
 
 

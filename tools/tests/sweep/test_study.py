@@ -31,12 +31,12 @@ BAD = {
     "no such path": (
         'name = "mode"\ncell = ["unit", 1]',
         'name = "mode"\npath = "cabinets[0].speed"',
-        "there is no cabinets[0].speed in the scenario",
+        "the scenario has no cabinets[0].speed",
     ),
     "no such place": (
         'name = "mode"\ncell = ["unit", 1]',
         'name = "mode"\npath = "cabinets[7].clock"',
-        "there is no cabinets[7].clock in the scenario",
+        "the scenario has no cabinets[7].clock",
     ),
     "no such cabinet": ("cabinet = 2", "cabinet = 3", "the scenario has no cabinet 3"),
     "no such cell": (
@@ -45,14 +45,14 @@ BAD = {
         "vary[1].cell has to begin with one of phase, sequence, unit, pattern, split, preempt",
     ),
     "a cell with its value": ('["unit", 1]', '["unit", 1, 2]', "the value comes from the study"),
-    "no such measure": ('"services"', '"service"', "there is no service: is services meant?"),
-    "a name that is unknown": ("seeds = 5", "seed = 5", "seed is unknown: is seeds meant?"),
+    "no such measure": ('"services"', '"service"', "unknown measure 'service'; did you mean services?"),
+    "a name that is unknown": ("seeds = 5", "seed = 5", "seed is unknown; did you mean seeds?"),
     "a measure of the street without one": ("[street]\ntravel = [10]", "", "band_outbound needs the table street"),
     "a rate out of range": (
         "vehicles = 400", "vehicles = 4000", "traffic.flow[0].vehicles is 4000, and has to be 0 to 3600"
     ),
     "seeds without anything drawn": (
-        STUDY[STUDY.index("[traffic]") : STUDY.index("[street]")], "", "nothing here is drawn"
+        STUDY[STUDY.index("[traffic]") : STUDY.index("[street]")], "", "nothing here is random"
     ),
     "two columns of one name": ('name = "mode"', 'name = "offset"', "two columns of the table would be called offset"),
     "no values": ("values = [2, 3, 4]", "values = []", "vary[1].values has to have 1 to 1,000,000 values"),
@@ -61,7 +61,7 @@ BAD = {
         "values = [2]\nrange = {from = 1, to = 2}",
         "needs one of values, range, random, option, and has several",
     ),
-    "no TOML": ("seeds = 5", "seeds = = 5", "study.toml: no TOML"),
+    "no TOML": ("seeds = 5", "seeds = = 5", "study.toml: not valid TOML"),
 }  # fmt: skip
 
 
@@ -134,7 +134,7 @@ def test_random_samples_lie_in_their_range_and_are_the_same_again():
 
 
 def test_samples_without_a_random_parameter_are_refused():
-    with pytest.raises(Fault, match="samples goes with a parameter that is random"):
+    with pytest.raises(Fault, match="samples needs a random parameter"):
         study(vary=[parameter("a", values=[1])], samples=5)
 
 

@@ -83,7 +83,7 @@ def names_are_known(volumes: Volumes) -> None:
     for it in (*volumes.flows, *volumes.crossings):
         if it.profile is not None and it.profile not in volumes.profiles:
             near = next(iter(difflib.get_close_matches(it.profile, volumes.profiles, 1)), None)
-            raise Fault(f"volumes: {told(it)}: no profile {it.profile}" + (f": is {near} meant?" if near else ""))
+            raise Fault(f"volumes: {told(it)}: no profile {it.profile}" + (f"; did you mean {near}?" if near else ""))
 
 
 def profiles_cover(volumes: Volumes, scenario: dict[str, Any], seconds: float) -> None:
