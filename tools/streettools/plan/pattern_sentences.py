@@ -9,6 +9,10 @@ from .names import Intersection
 from .sentences import Sentences, clearance_words, many, seconds, service_words
 
 
+DWELL, SHORTWAY = 2, 3
+ASKED = " (the rule asks it in every mode of correction)"
+
+
 def ceiling(ticks: int) -> int:
     """Returns whole seconds, at least so many ticks."""
     return -(-ticks // 10)
@@ -145,14 +149,17 @@ class PatternSentences(Sentences):
 
     def why_short(self, laid: Layout) -> str:
         """Returns why the green of the coordinated phases together is too short."""
-        add, skip = (value(self.tables, ("unit", column)) for column in (3, 4))
+        mode, add, skip = (value(self.tables, ("unit", column)) for column in (1, 3, 4))
         what, _ = max(laid.window_needs().items(), key=lambda it: it[1])
         if what == "add":
+            asked = ASKED if mode == DWELL else ""
             return (
-                f"while coordination corrects its offset, a cycle may be lengthened by add_limit, {seconds(add)}, "
-                "which this green must have room for"
+                f"while coordination corrects its offset, a cycle may be lengthened by add_limit, {seconds(add)}"
+                f"{asked}, which this green must have room for"
             )
-        skipped = f"while coordination corrects its offset, a cycle may be shortened by skip_limit, {seconds(skip)}"
+        asked = "" if mode == SHORTWAY else ASKED
+        skipped = "while coordination corrects its offset, a cycle may be shortened by skip_limit, "
+        skipped += f"{seconds(skip)}{asked}"
         if what == "skip":
             return f"{skipped} (a skip), which takes twice that, {seconds(2 * skip)}, of this green"
         phase = int(what.split()[1])

@@ -179,8 +179,8 @@ def of_entry(street: Street, tables: list[Tables], line: list[Entry], at: int) -
     last, cycles = street.names.called(worst), changes[worst].cycles
     needed = changes[worst].ticks / 10
     head = f"at {day_text(entry.second)} pattern {entry.pattern}"
-    done = f"on its offset by {day_text(entry.second + needed)} at the latest"
-    yield note("schedule", f"{head}: every intersection is {done}; {last} takes longest, {cycles} cycles")
+    done = f"left undisturbed, every intersection is on its offset by {day_text(entry.second + needed)} at the latest"
+    yield note("schedule", f"{head}: {done}; {last} takes longest, {cycles} cycles")
     left = (after.second - entry.second) % DAY_SECONDS
     if len(line) > 1 and left < needed:
         words = f"{head} may not come onto its offset at {last} before the next change, {left // 60} min later"

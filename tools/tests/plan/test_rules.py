@@ -94,9 +94,9 @@ CASES = {
     19: (
         1, "[intersection.coordination]\nadd_limit = 25",
         "pattern 1 coordinates phase 2 and phase 6: from local zero, the later of their starts, both are green for "
-        "24.5 s, but while coordination corrects its offset, a cycle may be lengthened by add_limit, 25 s, which this "
-        "green must have room for; make add_limit 24.5 s or less, or the splits of 2 and 6 so long that this green has "
-        "1 s more (as --fix does)",
+        "24.5 s, but while coordination corrects its offset, a cycle may be lengthened by add_limit, 25 s (the rule "
+        "asks it in every mode of correction), which this green must have room for; make add_limit 24.5 s or less, or "
+        "the splits of 2 and 6 so long that this green has 1 s more (as --fix does)",
     ),
     20: (
         3,

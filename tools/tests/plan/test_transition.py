@@ -68,8 +68,8 @@ def test_a_change_of_plan_has_its_cycles_and_minutes():
         "7 cycles (17 min)"
     )
     assert told[1] == (
-        "schedule: note: at 06:30:00 pattern 2: every intersection is on its offset by 06:58:45 at the latest; Grant "
-        "St takes longest, 14 cycles"
+        "schedule: note: at 06:30:00 pattern 2: left undisturbed, every intersection is on its offset by 06:58:45 at "
+        "the latest; Grant St takes longest, 14 cycles"
     )
 
 

@@ -153,6 +153,14 @@ def test_yellow_changes_are_those_of_the_tables(speed, due):
     assert street_facts.yellow_due(names.Phase(speed=speed), metric=False) == due
 
 
+@pytest.mark.parametrize(("speed", "width", "due"), [(25, 40, 1.6), (40, 60, 1.4), (45, 80, 1.5), (30, 0, None)])
+def test_red_clearances_are_width_and_a_vehicle_by_speed(speed, width, due):
+    """60 ft at 36.67 ft/s, 80 ft at 58.67 ft/s, 100 ft at 66 ft/s; 12.2 m and 18.3 m are 40 ft and 60 ft."""
+    assert street_facts.red_due(names.Phase(speed=speed, width=width), metric=False) == due
+    phase = names.Phase(speed=round(speed * 1.609, 1), width=round(width * 0.3048, 1))
+    assert street_facts.red_due(phase, metric=True) == due
+
+
 def test_metric_speeds_and_lengths_are_the_same_street():
     """72.4 km/h are 45 mph, and 18.3 m are 60 ft."""
     phase = names.Phase(speed=72.4, crossing=18.3)
