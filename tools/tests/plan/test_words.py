@@ -185,6 +185,7 @@ def band_words(program, travel: int) -> list[str]:
     return [
         f"{it.level.value}: {it.words}"
         for it in check.findings(sources.Source("street.toml", street=street), str(program))
+        if "band" in it.words
     ]
 
 
