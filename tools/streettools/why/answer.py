@@ -4,6 +4,7 @@ import json
 from typing import Any
 
 from ..look.called import Called
+from ..shared.cabinet import mode_of
 from .asked import Times
 from .reasons import Reason
 from .sentences import COMINGS, ENDINGS, Sentences, called_by, rule
@@ -84,7 +85,9 @@ class Answer:
         if seen.window is not None:
             force = "" if seen.force is None else f", force point of phase {self.story.phase} {seen.force}"
             places = f", counter {seen.frame.counter} (window ends at {seen.window}{force})"
-        return f"mode: {seen.frame.mode}{places}"
+        text = str(seen.frame.mode)
+        mode = mode_of(text)
+        return f"mode: {text} ({mode.words}{f', {mode.stage}' if mode.stage else ''}){places}"
 
     def wait(self) -> list[str]:
         """Returns the reasons of all of the wait, in their order."""

@@ -150,7 +150,7 @@ def toward_goal(at: Decided, p: int) -> Reasons:
         return (goal_reason(at),)
     ring = rows(at.past.tables)[p].ring
     found = [stays(at, q, rows(at.past.tables)[q].ring != ring) for q in in_the_way(at.past, p)]
-    return (*found, *reverting(at, p)) or (Reason(Kind.UNKNOWN),)
+    return (*((*found, *reverting(at, p)) or (Reason(Kind.UNKNOWN),)), goal_reason(at))
 
 
 def reverting(at: Decided, p: int) -> Reasons:

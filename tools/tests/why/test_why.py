@@ -113,7 +113,9 @@ def test_in_a_preempt_only_its_phases_come(told):
     value = told(PREEMPT, 3, 200)
     assert deciding(value)[:2] == ("preempt", [4, 8]) and value["reasons"][0]["number"] == 1
     # minimum green of the preempt is 0, so one tick: yellow change at once, then red clearance
-    assert deciding(told(PREEMPT, 4, 120)) == ("clearance", [2], False, 155)
+    value = told(PREEMPT, 4, 120)
+    assert deciding(value) == ("clearance", [2], False, 155)
+    assert value["reasons"][-1]["words"] == "preempt 1 is in its entry: only phases 4 and 8 may turn green"
     value = told(PREEMPT, 4, 155)
     assert (value["came"], value["how"]) == (155, "preempt")
 
