@@ -8,7 +8,7 @@ import json
 from collections.abc import Iterator
 from typing import Any
 
-from ..shared.session_record import LISTS
+from ..shared.session import LISTS
 from ..street.street import rounds_for
 
 Scenario = dict[str, Any]

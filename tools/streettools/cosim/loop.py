@@ -12,7 +12,7 @@ from dataclasses import dataclass
 from typing import Any
 
 from ..shared.fault import Fault
-from ..shared.session_record import LISTS
+from ..shared.session import LISTS
 from ..shared.status import Status
 from ..street.record import Room
 from .checks import yielding_in

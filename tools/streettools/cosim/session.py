@@ -2,10 +2,12 @@
 came."""
 
 import pathlib
-from typing import Any
+from typing import TYPE_CHECKING, Any
 
 from ..shared import session
-from ..shared.session_record import SessionRecord
+
+if TYPE_CHECKING:
+    from ..shared.session_record import SessionRecord
 
 
 class Session(session.Session):
@@ -13,12 +15,16 @@ class Session(session.Session):
 
     def __init__(self, program: pathlib.Path | str, scenario: dict[str, Any], records: bool = True) -> None:
         super().__init__(program, scenario)
-        self.record = SessionRecord(scenario)
         self.records = records
+        self.record: "SessionRecord"
         self.is_recorded = True
         """Whether the record has all that was asked; not if a call of `tick` was broken off."""
-        for line in self.opened:
-            self.record.take(line)
+        if records:
+            from ..shared import session_record  # takes a while
+
+            self.record = session_record.SessionRecord(scenario)
+            for line in self.opened:
+                self.record.take(line)
 
     def tick(self, count: int, before: list[bytes]) -> list[bytes]:
         """Takes ticks after other requests, over the ends of rounds where need be; returns all lines that come."""
@@ -37,7 +43,8 @@ class Session(session.Session):
         try:
             if self.is_recorded:
                 for answer in self.finish():
-                    self.record.answered(None, answer)
+                    if self.records:
+                        self.record.answered(None, answer)
         finally:
             self.end()
 

@@ -22,6 +22,8 @@ LONGEST = 1 << 24
 """The octets of the longest answer that is read. One to 600 ticks of 64 cabinets has at most 3 million."""
 PIECE = 1 << 16
 DOT = b"."
+LISTS = ("inputs", "loads", "priority", "frames", "faults")
+"""The lists of a scenario whose items have a round."""
 
 Answer = list[bytes]
 """The lines of an answer, without the dot."""
@@ -114,10 +116,10 @@ class Session:
     def exchanged(self, text: bytes, count: int) -> list[Answer]:
         """Writes requests, each with its newline, and returns so many answers. It reads while it writes, so that
         neither side waits for the other."""
-        found, left = [], memoryview(text)
-        while left:
-            left = left[self.written(left) :]
-            if left and self.has_output():
+        found: list[Answer] = []
+        while text:
+            text = text[self.written(text) :]
+            if text and self.has_output():
                 found += self.answers.fed(self.read())
         while len(found) < count:
             found += self.answers.fed(self.read())
@@ -125,7 +127,7 @@ class Session:
             raise Fault(f"the program wrote {len(found)} answers to {count} requests", Status.FILE)
         return found
 
-    def written(self, text: memoryview) -> int:
+    def written(self, text: bytes) -> int:
         """Writes what there is room for, and returns how many octets that were."""
         try:
             return os.write(self.input, text)

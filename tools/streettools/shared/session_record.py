@@ -10,10 +10,9 @@ from collections import defaultdict
 from collections.abc import Iterator
 from typing import Any, NamedTuple
 
+from .session import LISTS
 from .snmp import SET, head_of
 
-LISTS = ("inputs", "loads", "priority", "frames", "faults")
-"""The lists of a scenario whose items have a round."""
 PASSES = {"poll": 1, "load": 2, "priority": 3}
 INPUTS, TICKS = 0, 4
 MOST_KNOWN = 4096

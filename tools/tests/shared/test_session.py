@@ -108,7 +108,7 @@ def test_a_program_that_answers_nothing_in_time_is_ended(script, text):
 
 
 def test_a_program_that_answers_too_much_is_ended(script):
-    path = script(OPENING + "read line; printf '.\\n.\\n.\\n'; cat")
+    path = script(OPENING + "read line\ncat <<'END'\n.\n.\n.\nEND\ncat\n")
     with pytest.raises(Fault, match="3 answers to 2 requests"), open_session(path) as session:
         session.ask([b"veh 1 2 on", b"tick 10"])
 

@@ -3,7 +3,7 @@
 
 from typing import Any
 
-from ...shared.session_record import LISTS
+from ...shared.session import LISTS
 from ..session import Session
 
 
