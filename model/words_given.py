@@ -1,6 +1,6 @@
 """The words that are commands.
 
-docs/COMMANDS.md. They stand exactly in this order; numbers are decimal digits without a sign and without a leading zero.
+docs/COMMANDS.md. They are in exactly this order; numbers are decimal digits without a sign and without a leading zero.
 """
 
 import re

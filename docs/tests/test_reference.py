@@ -89,7 +89,8 @@ def test_an_option_is_read_with_its_range_unit_and_default():
 def test_a_definition_is_read_with_its_comment_its_arguments_and_what_it_has():
     """A clause with names gives the names of the arguments; what has no comment belongs to the one before."""
     text = (
-        "-- What it is\n-- about.\nuse Rattle.x.{y}\n\n-- it is even\nabbrev pub even : Nat\n    -> Bool\neven n = go n\n\n"
+        "-- What it is\n-- about.\nuse Rattle.x.{y}\n\n-- it is even\nabbrev pub even : Nat\n    -> Bool\n"
+        "even n = go n\n\n"
         "abbrev pub go : Nat -> Bool\ngo zero = true\ngo one = false\n\n"
         "-- two facts\npub record Both (n : Nat) : Type 0 where\n  pub first : A\n  pub second : B\n\n"
         "-- either\npub data Either : Type 0 where\n  Left : Either\n"

@@ -25,7 +25,8 @@ def main(given: list[str] | None = None) -> int:
         return Status.DONE
     if not words.is_word(given[0]):
         near = words.meant(given[0])
-        print(f"streettools: unknown command {given[0]!r}" + (f"; did you mean {near}?" if near else ""), file=sys.stderr)
+        more = f"; did you mean {near}?" if near else ""
+        print(f"streettools: unknown command {given[0]!r}{more}", file=sys.stderr)
         return Status.REFUSED
     signal.signal(signal.SIGINT, signal.default_int_handler)
     return words.run(given)

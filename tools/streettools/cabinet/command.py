@@ -74,7 +74,8 @@ class Cabinet:
         if self.sets is not None and self.sets.is_full():
             return "the record is full: a scenario has at most 100000 messages and 16777216 bytes"
         return (
-            f"the session limit is reached ({self.street.scenario['rounds']} rounds): restart, or use a scenario with longer rounds"
+            f"the session limit is reached ({self.street.scenario['rounds']} rounds): restart, or use a scenario with "
+            "longer rounds"
         )
 
     async def serve(self) -> None:
@@ -120,7 +121,8 @@ def parser() -> argparse.ArgumentParser:
         "--scenario", metavar="FILE", help="the scenario to run (default: one standard cabinet, rounds of 1 s)"
     )
     words.add_argument(
-        "--cabinet", type=number(1, 64), default=1, metavar="N", help="which cabinet of the scenario answers (default: 1)"
+        "--cabinet", type=number(1, 64), default=1, metavar="N",
+        help="which cabinet of the scenario answers (default: 1)",
     )
     add_renamed(
         words, "--step", "--ticks-per-message", type=number(0, 864_000), metavar="TICKS",

@@ -32,7 +32,9 @@ def parser() -> argparse.ArgumentParser:
     )
     words.add_argument("comparison", type=pathlib.Path, help="the file that names the plans, in TOML")
     add_output(words, "the folder for all results", type=pathlib.Path, required=True, metavar="FOLDER")
-    words.add_argument("--workers", type=number(1, 64), default=1, metavar="N", help="number of parallel runs (default: 1)")
+    words.add_argument(
+        "--workers", type=number(1, 64), default=1, metavar="N", help="number of parallel runs (default: 1)"
+    )
     words.add_argument("--keep", action="store_true", help="keep each run's folder: trace, trips, study, report")
     add_json(words)
     add_program(words)

@@ -45,11 +45,19 @@ def parser() -> argparse.ArgumentParser:
     words.add_argument("--map", **path, metavar="MAP", help="the map: which link has which phase")
     words.add_argument("--scenario", **path, metavar="FILE", help="the cabinets")
     add_output(words, "the folder for all results", **path, metavar="FOLDER")
-    words.add_argument("--step", type=step_of, default=0.1, metavar="S", help="a step of SUMO: 0.1 or 1 second (default: 0.1)")
+    words.add_argument(
+        "--step", type=step_of, default=0.1, metavar="S", help="a step of SUMO: 0.1 or 1 second (default: 0.1)"
+    )
     of_day = number(0, 86_400)
-    words.add_argument("--seconds", type=number(1, 86_400), metavar="S", help="the length (default: SUMO's, or else the scenario's)")
-    words.add_argument("--seed", type=number(0, 2**31 - 1), metavar="N", help="SUMO's seed (default: that of its configuration)")
-    words.add_argument("--warm", type=of_day, default=0, metavar="S", help="exclude trips that start earlier (default: 0)")
+    words.add_argument(
+        "--seconds", type=number(1, 86_400), metavar="S", help="the length (default: SUMO's, or else the scenario's)"
+    )
+    words.add_argument(
+        "--seed", type=number(0, 2**31 - 1), metavar="N", help="SUMO's seed (default: that of its configuration)"
+    )
+    words.add_argument(
+        "--warm", type=of_day, default=0, metavar="S", help="exclude trips that start earlier (default: 0)"
+    )
     words.add_argument("--no-priority", action="store_true", help="buses don't request priority")
     add_program(words)
     return words
@@ -81,7 +89,8 @@ def tell(done: Done, given: Given, out: pathlib.Path) -> None:
     if done.study is None:
         say("cosim", "nothing was recorded: no round ended")
     else:
-        say("cosim", f"{out / TRACE} and the report next to it: {done.study.seconds:g} s, {len(done.study.trips)} trips")
+        found = f"{done.study.seconds:g} s, {len(done.study.trips)} trips"
+        say("cosim", f"{out / TRACE} and the report next to it: {found}")
 
 
 def main(words: list[str]) -> int:

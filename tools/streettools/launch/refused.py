@@ -1,7 +1,7 @@
 """What follows the program's line if it refuses a scenario or a field file: what was expected, and what was found.
 
-`./arterial plan explain` says the same. It is not proved. Its memory and its time are bounded; if they don't suffice, or
-if the line can't be explained, nothing is added.
+`./arterial plan explain` says the same. It is not proved. Its memory and its time are bounded; if they don't suffice,
+or if the line can't be explained, nothing is added.
 """
 
 import contextlib

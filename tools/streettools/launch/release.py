@@ -28,7 +28,10 @@ def parser() -> argparse.ArgumentParser:
         epilog="example: tools/release /tmp",
         formatter_class=argparse.HelpFormatter,
     )
-    words.add_argument("folder", type=pathlib.Path, nargs="?", default=pathlib.Path("."), help="where the files are written (default: the current one)")
+    words.add_argument(
+        "folder", type=pathlib.Path, nargs="?", default=pathlib.Path("."),
+        help="where the files are written (default: the current one)",
+    )
     words.add_argument("--no-package", action="store_true", help="only the proof, no Debian package")
     return words
 

@@ -70,7 +70,9 @@ def add_reader(commands, name, text):
 
 def add_street(found):
     """Adds the options that choose a street."""
-    found.add_argument("--cabinets", type=numbers, metavar="N,N,..", help="the cabinets in the street's order (default: all)")
+    found.add_argument(
+        "--cabinets", type=numbers, metavar="N,N,..", help="the cabinets in the street's order (default: all)"
+    )
     found.add_argument("--travel", type=travel, metavar="S,S,..",
                        help="seconds from each cabinet to the next, for the bands")  # fmt: skip
 
@@ -96,7 +98,9 @@ def add_text(commands, name, text):
 def add_rings(commands):
     """Adds the command that draws a cabinet's rings."""
     found = add_picture(
-        commands, "rings", "both rings of a cabinet: greens, clearances, walks, barriers, modes (180 s if --to isn't given)"
+        commands,
+        "rings",
+        "both rings of a cabinet: greens, clearances, walks, barriers, modes (180 s if --to isn't given)",
     )
     found.add_argument("--cabinet", type=int, default=1, metavar="N", help="the cabinet (default: 1)")
 
@@ -110,7 +114,9 @@ def add_coordination(commands):
     add_street(found)
     found.add_argument("--planned", metavar="FILE",
                        help="what `arterial band` wrote: the plan's widest bands, as dashed outlines")  # fmt: skip
-    found.add_argument("--phases", type=phases, metavar="P,P", help="the phases to show (default: the coordinated ones)")
+    found.add_argument(
+        "--phases", type=phases, metavar="P,P", help="the phases to show (default: the coordinated ones)"
+    )
 
 
 def add_offset(commands):

@@ -58,7 +58,9 @@ def add(parts, name: str, does, text: str, more: str = "") -> argparse.ArgumentP
 def add_file(part: argparse.ArgumentParser) -> None:
     """Adds a file that is read, and its names."""
     part.add_argument("file", metavar="FILE", help=FILE)
-    part.add_argument("--names", metavar="NAMES", help="the names of a scenario (default: street.names.json next to street.json)")
+    part.add_argument(
+        "--names", metavar="NAMES", help="the names of a scenario (default: street.names.json next to street.json)"
+    )
 
 
 def add_scenario(part: argparse.ArgumentParser) -> None:
@@ -110,7 +112,9 @@ def add_products(parts) -> None:
     )
     part.add_argument("old", metavar="OLD", help=FILE)
     part.add_argument("new", metavar="NEW", help="the same")
-    part.add_argument("--round", type=number(1, 86_400), default=1, help="the round in which they are sent (default: 1)")
+    part.add_argument(
+        "--round", type=number(1, 86_400), default=1, help="the round in which they are sent (default: 1)"
+    )
     part.add_argument(
         "--flash", action="store_true", help="the cabinets are in flash then, so rings and enabled phases may change"
     )
@@ -214,7 +218,9 @@ def add_exchange(parts) -> None:
     part = add(aims, "utdf", actions.to_utdf, "write a street as UTDF, version 8: nodes, links, lanes, a timing plan")
     add_file(part)
     part.add_argument("--volumes", metavar="FILE", help="the file of volumes of the street (docs/QUEUES.md)")
-    part.add_argument("--pattern", type=number(1, 48), default=1, help="the pattern that is the timing plan (default: 1)")
+    part.add_argument(
+        "--pattern", type=number(1, 48), default=1, help="the pattern that is the timing plan (default: 1)"
+    )
     add_output(part, OUTPUT, metavar="OUTPUT")
 
 

@@ -18,7 +18,8 @@ class Parser(argparse.ArgumentParser):
     def __init__(self, prog: str, **more: Any) -> None:
         more.setdefault("formatter_class", argparse.RawDescriptionHelpFormatter)
         name = prog if "/" in prog else f"arterial {prog.removeprefix('arterial ')}"
-        super().__init__(prog=name, allow_abbrev=False, **{**more, "add_help": False})
+        more["add_help"] = False
+        super().__init__(prog=name, allow_abbrev=False, **more)
         self.add_argument("-h", action=ShortHelp, help="show a short help and exit")
         self.add_argument("--help", action="help", help="show this help and exit")
         self.add_argument("--version", action="version", version=f"arterial {VERSION}")

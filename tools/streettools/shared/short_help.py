@@ -39,7 +39,8 @@ def value_of(action: argparse.Action) -> str:
 
 def is_required(parser: argparse.ArgumentParser, action: argparse.Action) -> bool:
     """Returns whether a command needs this option; of a group of options that it needs one, each counts."""
-    return action.required or any(it.required and action in it._group_actions for it in parser._mutually_exclusive_groups)
+    groups = (it for it in parser._mutually_exclusive_groups if it.required)
+    return action.required or any(action in it._group_actions for it in groups)
 
 
 def usage(parser: argparse.ArgumentParser) -> str:

@@ -118,7 +118,8 @@ def parser() -> argparse.ArgumentParser:
         "continues",
     )
     words.add_argument(
-        "--as", dest="front", choices=["ntcip1202"], help="answer more than the proved profile does (docs/SNMP-CONFORMANCE.md)"
+        "--as", dest="front", choices=["ntcip1202"],
+        help="answer more than the proved profile does (docs/SNMP-CONFORMANCE.md)",
     )
     add_program(words)
     return words

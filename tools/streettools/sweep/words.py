@@ -31,7 +31,9 @@ def parser() -> argparse.ArgumentParser:
     does.add_argument("--count", action="store_true", help="print the number of runs of the study")
     does.add_argument("--show", type=number(1, 10**15), metavar="RUN", help="print the scenario of a run")
     before = words.add_mutually_exclusive_group()
-    before.add_argument("--resume", action="store_true", help="continue an earlier sweep: keep the runs that it has done")
+    before.add_argument(
+        "--resume", action="store_true", help="continue an earlier sweep: keep the runs that it has done"
+    )
     before.add_argument("--anew", action="store_true", help="discard the runs of an earlier sweep")
     words.add_argument(
         "--keep", action="store_true", help="keep the file of the runs next to the table when all are done"
@@ -45,12 +47,16 @@ def parser() -> argparse.ArgumentParser:
     )  # fmt: skip
     add_program(words)
     where = words.add_argument_group("where the runs are done (default: in processes on this machine)")
-    where.add_argument("--workers", type=number(1, 4096), metavar="N", help="number of workers (default: the number of processors)")
     where.add_argument(
-        "--memory", type=number(200, 10**7), metavar="MIB", help="memory of each worker (default: its share of the machine's)"
+        "--workers", type=number(1, 4096), metavar="N", help="number of workers (default: the number of processors)"
+    )
+    where.add_argument(
+        "--memory", type=number(200, 10**7), metavar="MIB",
+        help="memory of each worker (default: its share of the machine's)",
     )
     where.add_argument("--scheduler", metavar="ADDRESS", help="use an existing Dask cluster: tls://HOST:PORT")
-    for name, what in (("ca", "certificate of the authority"), ("cert", "own certificate"), ("key", "key of the own certificate")):
+    papers = (("ca", "certificate of the authority"), ("cert", "own certificate"), ("key", "key of that certificate"))
+    for name, what in papers:
         where.add_argument(f"--tls-{name}", type=Path, metavar="FILE", help=f"with --scheduler: the {what}, as PEM")
     where.add_argument("--slurm", action="store_true", help="start a Dask cluster by Slurm's sbatch")
     where.add_argument("--interface", metavar="NAME", help="with --slurm: the network interface of its nodes, as eth0")

@@ -183,7 +183,8 @@ def test_it_ends_where_time_is_over(client):
     agent = client("--ticks-per-message", 864_000)
     assert reply_of(agent.ask(message(GET, 1, [(CLOCK, None)]))).status == 0
     agent.send(message(GET, 2, [(CLOCK, None)]))
-    assert agent.ended() == (3, "cabinet: the session limit is reached (86400 rounds): restart, or use a scenario with longer rounds\n")
+    words = "the session limit is reached (86400 rounds): restart, or use a scenario with longer rounds"
+    assert agent.ended() == (3, f"cabinet: {words}\n")
 
 
 def refused(program, *words):

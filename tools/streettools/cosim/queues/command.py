@@ -38,11 +38,22 @@ def parser() -> argparse.ArgumentParser:
     )
     words.add_argument("volumes", help="volumes and routes, in TOML; - is standard input")
     words.add_argument("--scenario", required=True, metavar="FILE", help="the cabinets: a scenario, or a timing sheet")
-    words.add_argument("--seconds", type=number(1, 5_529_600), metavar="S", help="the length (default: that of the scenario)")
-    words.add_argument("--warm", type=number(0, 5_529_600), default=0, metavar="S", help="exclude trips that start earlier (default: 0)")
-    words.add_argument("--step", choices=STEPS, default="1", help="seconds between two samples of the detectors (default: 1)")
-    words.add_argument("--seed", type=number(0, 4_294_967_295), default=1, metavar="N", help="the seed of random arrivals (default: 1)")
-    words.add_argument("--keep-inputs", action="store_true", help="keep the scenario's inputs of detectors and push buttons")
+    words.add_argument(
+        "--seconds", type=number(1, 5_529_600), metavar="S", help="the length (default: that of the scenario)"
+    )
+    words.add_argument(
+        "--warm", type=number(0, 5_529_600), default=0, metavar="S",
+        help="exclude trips that start earlier (default: 0)",
+    )
+    words.add_argument(
+        "--step", choices=STEPS, default="1", help="seconds between two samples of the detectors (default: 1)"
+    )
+    words.add_argument(
+        "--seed", type=number(0, 4_294_967_295), default=1, metavar="N", help="the seed of random arrivals (default: 1)"
+    )
+    words.add_argument(
+        "--keep-inputs", action="store_true", help="keep the scenario's inputs of detectors and push buttons"
+    )
     add_json(words)
     add_output(words, "a folder for the report, session.trace and study.json", metavar="FOLDER")
     add_program(words)
