@@ -27,7 +27,7 @@ SECONDS = 20
 WIDEST = 160
 """How much of a line is shown."""
 
-ENDED = "read  nothing: the text ends"
+ENDED = "read      nothing: the text ends"
 
 
 class Untold(Exception):
@@ -97,7 +97,7 @@ def shown(read: bytes, due: bytes) -> list[str]:
     length = len(os.path.commonprefix((read, due)))
     start = max(0, length - WIDEST // 2) if max(len(read), len(due)) > WIDEST else 0
     pieces = []
-    for name, line in (("read", read), ("due ", due)):
+    for name, line in (("read    ", read), ("expected", due)):
         piece = line[start : start + WIDEST].decode("ascii", "backslashreplace")
         piece = "".join(it if it.isprintable() else f"\\x{ord(it):02x}" for it in piece)
         pieces.append(f"{name}  {'.. ' * (start > 0)}{piece}{' ..' * (len(line) > start + WIDEST)}")
@@ -111,12 +111,12 @@ def behind(program: str, text: bytes, number: int) -> list[str]:
     try:
         due = line_due(program, before)
     except Untold as why:
-        return [shown(read, read)[0], f"due   unknown: {why}"]
+        return [shown(read, read)[0], f"expected  unknown: {why}"]
     pieces = shown(read, due)
     if len(before) == len(text):
         pieces[0] = ENDED
     if not due:
-        pieces[1] = f"due   nothing: the trace ends with line {number - 1}"
+        pieces[1] = f"expected  nothing: the trace ends with line {number - 1}"
     elif due.startswith(b"J "):
         pieces[1] += "   (these items in any order)"
     return pieces
@@ -130,7 +130,7 @@ def told(program: str, text: bytes, said: str) -> list[str]:
         return []
     number = int(found[1])
     read, due = at_opening(program, text.partition(b"\n")[0]) if number == 1 else behind(program, text, number)
-    is_same = read.removeprefix("read") == due.removeprefix("due ")
+    is_same = read.removeprefix("read    ") == due.removeprefix("expected")
     return [read, due + "   (with a newline after it)" * is_same]
 
 

@@ -43,8 +43,8 @@ def test_of_a_changed_line_the_one_that_stood_there_is_due(kind, rule):
     stood = MIXED.split(b"\n")[number - 1]
     text = with_line(MIXED, number, stood + b"7")
     read, shown = due.told(NONE, text, f"trace: line {number} breaks rule {rule}\n")
-    assert read.startswith("read  ") and shown.startswith("due   ")
-    assert shown.removeprefix("due   ") == stood.decode() or len(stood) > due.WIDEST and " .." in shown + read
+    assert read.startswith("read      ") and shown.startswith("expected  ")
+    assert shown.removeprefix("expected  ") == stood.decode() or len(stood) > due.WIDEST and " .." in shown + read
 
 
 def test_of_a_journal_the_items_are_due_in_any_order():
@@ -52,37 +52,37 @@ def test_of_a_journal_the_items_are_due_in_any_order():
     4*15`)."""
     text = with_line(MIXED, 4, b"J 1 4*1")
     assert due.told(NONE, text, "trace: line 4 breaks rule 5") == [
-        "read  J 1 4*1",
-        "due   J 1 1*1 2*1 4*40   (these items in any order)",
+        "read      J 1 4*1",
+        "expected  J 1 1*1 2*1 4*40   (these items in any order)",
     ]
 
 
 def test_a_text_that_ends_and_one_that_goes_on():
     lines = MIXED.split(b"\n")
     cut = b"\n".join(lines[:2]) + b"\n"
-    assert due.told(NONE, cut, "trace: line 3 breaks rule 10") == [due.ENDED, "due   R 1"]
+    assert due.told(NONE, cut, "trace: line 3 breaks rule 10") == [due.ENDED, "expected  R 1"]
     number = len(lines)
     assert due.told(NONE, MIXED + b"R 9\n", f"trace: line {number} breaks rule 11") == [
-        "read  R 9",
-        f"due   nothing: the trace ends with line {number - 1}",
+        "read      R 9",
+        f"expected  nothing: the trace ends with line {number - 1}",
     ]
 
 
 def test_a_last_line_without_its_newline_lacks_that():
     number = MIXED.count(b"\n")
     read, shown = due.told(NONE, MIXED[:-1], f"trace: line {number} breaks rule 2")
-    assert (read, shown) == ("read  Z 6", "due   Z 6   (with a newline after it)")
+    assert (read, shown) == ("read      Z 6", "expected  Z 6   (with a newline after it)")
 
 
 def test_bytes_that_are_no_line_are_shown_as_they_are():
     read, shown = due.told(NONE, with_line(MIXED, 3, b"R\t\xff\x01"), "trace: line 3 breaks rule 2")
-    assert read == "read  R\\x09\\xff\\x01" and shown == "due   R 1"
+    assert read == "read      R\\x09\\xff\\x01" and shown == "expected  R 1"
 
 
 def test_of_long_lines_the_part_around_the_difference_is_shown():
     read, shown = due.shown(b"A" * 300 + b"x" + b"A" * 300, b"A" * 300 + b"y" + b"A" * 300)
-    assert len(read) < 180 and read.startswith("read  .. A") and read.endswith(" ..")
-    assert read[6:].index("x") == shown[6:].index("y")
+    assert len(read) < 180 and read.startswith("read      .. A") and read.endswith(" ..")
+    assert read[10:].index("x") == shown[10:].index("y")
 
 
 def test_nothing_is_said_of_a_text_that_is_too_long_or_of_another_answer():
@@ -98,7 +98,7 @@ def test_the_program_tells_the_line_where_journals_are_those_that_it_writes(numb
     stood = SERIAL.split(b"\n")[number - 1]
     text = with_line(SERIAL, number, b"F 1 9 R")
     assert due.told(str(PROGRAM), text, f"trace: line {number} breaks rule 2")[1].startswith(
-        f"due   {stood[: due.WIDEST].decode()}"
+        f"expected  {stood[: due.WIDEST].decode()}"
     )
 
 
@@ -106,7 +106,7 @@ def test_the_program_tells_the_line_where_journals_are_those_that_it_writes(numb
 def test_of_a_first_line_the_compact_text_is_due_or_its_fault_is_told():
     text = b'S {"cabinets":[{}],"rounds":1,"ticks":1,"version": 1}\n'
     said = "trace: line 1 breaks rule 3"
-    assert due.told(str(PROGRAM), text, said)[1] == 'due   S {"cabinets":[{}],"rounds":1,"ticks":1,"version":1}'
+    assert due.told(str(PROGRAM), text, said)[1] == 'expected  S {"cabinets":[{}],"rounds":1,"ticks":1,"version":1}'
     refused = text.replace(b'"rounds":1', b'"rounds":0')
     assert due.told(str(PROGRAM), refused, said)[1] == "its scenario is refused: scenario: limit rounds"
 
@@ -117,7 +117,7 @@ def damaged(tmp_path):
     file = tmp_path / "a trace"
     file.write_bytes(with_line(MIXED, 2, b"F 1 0 R"))
     stood = MIXED.split(b"\n")[1].decode()
-    return str(file), f"arterial: read  F 1 0 R\narterial: due   {stood}\n"
+    return str(file), f"arterial: read      F 1 0 R\narterial: expected  {stood}\n"
 
 
 ANSWER = {"SAYS": "trace: line 2 breaks rule 2", "STATUS": "5"}
@@ -139,7 +139,7 @@ def test_without_proofs_check_shows_both_lines_too(tried, damaged):
 
 def test_where_the_model_is_not_there_the_line_due_is_not_told(proved, damaged):
     said = proved.ran("check", damaged[0], **ANSWER)[2]
-    assert said.endswith("due   unknown: the model, which gives it for this order of journals, isn't here\n")
+    assert said.endswith("expected  unknown: the model, which gives it for this order of journals, isn't here\n")
 
 
 def test_of_a_pipe_the_way_to_both_lines_is_told(proved):

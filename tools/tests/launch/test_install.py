@@ -62,7 +62,7 @@ def test_the_installed_program_takes_files_and_tools_and_needs_no_kit(whole, tmp
     trace.write_text('S {"cabinets":[{}],"rounds":1,"ticks":1,"version":1}\nF 1 0 R\n')
     refused = {**names, "SAYS": "trace: line 2 breaks rule 2", "STATUS": "5"}
     assert done(program, "check", trace, env=refused)[2].endswith(
-        "\narterial: due   F 1 0 RRRRRRRRRRRRRRRR DDDDDDDDDDDDDDDD S 0 0 0\n"
+        "\narterial: expected  F 1 0 RRRRRRRRRRRRRRRR DDDDDDDDDDDDDDDD S 0 0 0\n"
     )
     for command in ("look", "cabinet"):
         assert done(program, command, "--help", env=names)[1].startswith(f"usage: arterial {command} ")

@@ -76,7 +76,7 @@ def test_the_same_seed_gives_the_same_report_and_another_seed_another(folder):
 @pytest.mark.parametrize(
     ("words", "status", "line"),
     [
-        (["--seconds", "60", "--warm", "60"], 2, "cosim: --warm 60 leaves nothing of 60 s to count"),
+        (["--seconds", "60", "--warm", "60"], 2, "cosim: --warm 60 leaves nothing of 60 s to measure"),
         (["--seconds", "5000000"], 2, "cosim: 5e+06 s are more than a scenario with rounds of 10 ticks may have"),
     ],
 )

@@ -80,7 +80,7 @@ def asked_text(octets: bytes) -> str:
     try:
         found = message_of(octets)
     except Malformed:
-        return f"{len(octets)} octets that are no message"
+        return f"{len(octets)} octets that are not a message"
     return f"{KINDS[found.kind]} {bindings_text(found.bindings, found.kind == SET)}"
 
 
