@@ -139,14 +139,16 @@ def written(street: Street, pattern: int, volumes: Volumes | None = None) -> tup
     lines = csv.writer(out, lineterminator="\r\n")
     writing = Writing(street, volumes)
     notes = writing.notes
-    network = [["RECORDNAME", "DATA"], ["UTDFVERSION", "8"], ["Metric", int(street.names.units == "metric")]]
+    network: list[list[Any]] = [["RECORDNAME", "DATA"], ["UTDFVERSION", "8"]]
+    network.append(["Metric", int(street.names.units == "metric")])
     for title, second, rows in (
         ("Network", "Network Settings", network), ("Nodes", "Node Data", node_rows(street)),
         ("Links", "Link Data", link_rows(writing)), ("Lanes", "Lane Group Data", lane_rows(writing)),
         ("Timeplans", "Timing Plan Settings", plan_rows(street, pattern, notes)),
         ("Phases", "Phasing Data", phase_rows(street, pattern, writing)),
     ):  # fmt: skip
-        lines.writerows([[f"[{title}]"], [second], *rows, []])
+        lines.writerows([[f"[{title}]"], [second]])
+        lines.writerows([*rows, []])
     return out.getvalue(), notes
 
 

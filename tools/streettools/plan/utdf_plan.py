@@ -116,12 +116,13 @@ def pattern(node: Node, drawn: list[str]) -> dict[str, Any] | None:
         left_out(node, "no cycle" if not cycle else "no reference phase that has times")
         return None
     splits = splits_of(node)
+    seconds = node.whole(cycle, "the cycle", "pattern 1")
     found = {
-        "cycle": node.whole(cycle, "the cycle", "pattern 1"),
+        "cycle": seconds,
         "splits": {str(phase): time for phase, time in splits.items()},
         "coordinated": pair,
     }
-    return found | {"offset": offset(node, drawn, splits, pair, found["cycle"])}
+    return found | {"offset": offset(node, drawn, splits, pair, seconds)}
 
 
 def is_free(node: Node) -> bool:

@@ -7,7 +7,8 @@ import subprocess
 
 import pytest
 
-from streettools.plan import fix, loads, names, pattern_rules, reading, rules
+from streettools.cabinet.messages import OCTETS, SET, Reply
+from streettools.plan import addresses, fix, loads, names, pattern_rules, reading, rules, sending, walk
 from streettools.shared.cells import differing, with_cells
 from streettools.shared.tables import Tables
 
@@ -198,19 +199,43 @@ def test_rings_that_change_need_flash():
     assert len(loads.downloads(Tables("std8"), new, flash=True)) == 1
 
 
+class Noted:
+    """An agent that takes every Set, and notes it; a Get has the outcome that is due, or the value that was set."""
+
+    def __init__(self):
+        self.sets, self.values = [], {}
+
+    def ask(self, kind, bindings):
+        """Returns the answer to a message."""
+        own = (*walk.OWN, 1)
+        if kind == SET:
+            self.sets.append([(".".join(map(str, name)), it) for name, it in bindings])
+            self.values |= {name: it for name, it in bindings if name[: len(own)] != own}
+            last = bindings[min(1, len(bindings) - 1)][0][len(own)]
+            self.values[*own, 7, 0] = {5: 3, 6: 4}.get(last, 1)  # verified, accepted, else staged
+            return Reply(1, 0, 0, [])
+        found = [(name, self.values.get(name, 0)) for name, _ in bindings]
+        octets = [(name, OCTETS, it) if isinstance(it, bytes) else (name, 2, bytes([it])) for name, it in found]
+        return Reply(1, 0, 0, octets)
+
+
 def test_the_sets_of_a_download_are_begin_parts_total_and_finish():
     """Cells by the names of their objects, 24 to a part, as docs/CLIENTS.md has the dialogue."""
-    load = {"round": 1, "cabinet": 1, "cells": [["phase", 2, 8, 43], ["sequence", 2, 1, "0201"], ["unit", 3, 60],
-            *(["split", 2, it, 3, 20] for it in range(1, 17)),
-            *(["pattern", 2, it, 1] for it in (2, 3, 4, 5)), ["preempt", 1, 13, "0206"], ["unit", 1, 3]]}  # fmt: skip
-    lines = list(loads.sets(load, 7, "127.0.0.1:10161", "public"))
-    head, own, asc = "snmpset -v1 -c public 127.0.0.1:10161", "1.3.6.1.4.1.32473.1", "1.3.6.1.4.1.1206.4.2.1"
-    assert len(lines) == 5 and lines[0] == f"{head} {own}.1.2.0 i 7"
-    assert lines[1].startswith(
-        f'{head} {own}.1.3.0 i 7 {own}.1.4.0 i 1 {asc}.1.2.1.8.2 i 43 {asc}.7.3.1.3.2.1 x 0201 {own}.3.2.0 i 60'
-    )
-    assert lines[2] == f"{head} {own}.1.3.0 i 7 {own}.1.4.0 i 2 {asc}.4.2.0 i 3"
-    assert lines[3:] == [f"{head} {own}.1.3.0 i 7 {own}.1.5.0 i 2", f"{head} {own}.1.3.0 i 7 {own}.1.6.0 i 1"]
+    cells = [["phase", 2, 8, 43], ["sequence", 2, 1, "0201"], ["unit", 3, 60],
+             *(["split", 2, it, 3, 20] for it in range(1, 17)),
+             *(["pattern", 2, it, 1] for it in (2, 3, 4, 5)), ["preempt", 1, 13, "0206"], ["unit", 1, 3]]  # fmt: skip
+    noted = Noted()
+    load = sending.Load(1, "Main", addresses.Place("127.0.0.1", 10161), Tables(), Tables())
+    assert sending.Device(load, noted).download(cells, 7) == 7
+    own, asc = "1.3.6.1.4.1.32473.1", "1.3.6.1.4.1.1206.4.2.1"
+    sets = noted.sets
+    assert len(sets) == 5 and sets[0] == [(f"{own}.1.2.0", 7)]
+    assert sets[1][:5] == [
+        (f"{own}.1.3.0", 7), (f"{own}.1.4.0", 1), (f"{asc}.1.2.1.8.2", 43), (f"{asc}.7.3.1.3.2.1", b"\2\1"),
+        (f"{own}.3.2.0", 60),
+    ]  # fmt: skip
+    assert sets[2] == [(f"{own}.1.3.0", 7), (f"{own}.1.4.0", 2), (f"{asc}.4.2.0", 3)]
+    assert sets[3:] == [[(f"{own}.1.3.0", 7), (f"{own}.1.5.0", 2)], [(f"{own}.1.3.0", 7), (f"{own}.1.6.0", 1)]]
 
 
 def test_the_program_takes_each_download(program):
