@@ -38,7 +38,8 @@ IN_FORCE_SECONDS = 5.0
 @dataclass
 class Load:
     """What an intersection's device gets: its number and name, where it is, its tables before and after, and the
-    downloads between them, each a list of cells. `alike` are the intersections whose tables were the same before."""
+    downloads between them, each a list of cells. `alike` are the intersections that only a name tells from it,
+    `called_before` is its name in the old plan."""
 
     number: int
     called: str
@@ -47,9 +48,14 @@ class Load:
     new: Tables
     downloads: list[Cells] = field(default_factory=list)
     alike: list[str] = field(default_factory=list)
+    called_before: str = ""
 
     def __str__(self) -> str:
         return f"intersection {self.number} ({self.called}) at {self.where}"
+
+    def names(self) -> set[str]:
+        """Returns the names that its device may have: that in the new plan, and that in the old one."""
+        return {" ".join(it.split()) for it in (self.called, self.called_before)}
 
     def lines(self) -> Iterator[str]:
         """Yields what is to be done, in words."""
@@ -107,10 +113,11 @@ class Device:
         found = self.value_at(SYS_NAME)
         return " ".join(found.decode("utf-8", "replace").split()) if isinstance(found, bytes) else ""
 
-    def check(self, by_address: bool) -> None:
-        """Refuses a device that isn't the intersection's, or that takes no downloads. It is only read."""
+    def check(self, by_address: bool) -> bool:
+        """Refuses a device that isn't the intersection's, or that takes no downloads; it is only read. Returns whether
+        it is to be loaded: not where it has the new plan already."""
         name = self.name()
-        if name and name != " ".join(self.load.called.split()):
+        if name and name not in self.load.names():
             shown_name = "".join(it if it.isprintable() else "?" for it in name)
             raise self.wrong(f"the device there is called {shown_name!r} (sysName)")
         if self.value_at(STATE) is None:
@@ -118,16 +125,15 @@ class Device:
             raise self.wrong(f"the device has no objects of downloads ({dotted(STATE[:-2])}): {words}")
         found = self.read(list(kinds()))
         other = [cell for cell in kinds() if found[cell] != value(self.load.old, cell)]
-        if other:
+        if other and any(found[cell] != value(self.load.new, cell) for cell in kinds()):
             raise self.wrong(self.not_the_old_plan(other, found))
         if self.load.alike and not name and not by_address:
             words = f"its tables are also those of {', '.join(self.load.alike)}, and the device has no name"
             raise self.wrong(f"{words}: nothing tells it from theirs. With --by-address its address does")
+        return not other
 
     def not_the_old_plan(self, other: list[Cell], found: dict[Cell, Value]) -> str:
         """Returns the words for tables that aren't those of the old plan."""
-        if all(found[cell] == value(self.load.new, cell) for cell in kinds()):
-            return "it has the new plan already"
         said = [f"{place(it)} is {shown(it, found[it])}, not {shown(it, value(self.load.old, it))}" for it in other]
         more = f"; and {len(said) - MOST_SHOWN} more" if len(said) > MOST_SHOWN else ""
         where = self.load.where
@@ -179,21 +185,35 @@ class Device:
             time.sleep(0.05)
 
 
+def whole(tables: Tables) -> tuple[Value, ...]:
+    """Returns all values of tables, in their order."""
+    return tuple(value(tables, cell) for cell in kinds())
+
+
+def alike(both: list[tuple[Tables, Tables]]) -> list[list[int]]:
+    """Returns for each intersection, with its tables before and after, the numbers of those that nothing but a name
+    tells from it: whose tables, before or after, are also its own."""
+    held = [{whole(before), whole(after)} for before, after in both]
+    return [
+        [number for number, other in enumerate(held, 1) if other is not mine and other & mine] for mine in held
+    ]
+
+
 def loads_of(old: Street, new: Street, found: list[dict[str, Any]], places: dict[int, Place]) -> list[Load]:
     """Returns what each intersection's device gets, by the downloads between two plans. An intersection that changes
     and has no address is refused."""
-    before = [tables_of(it) for it in old.scenario["cabinets"]]
-    made: dict[int, Load] = {}
+    streets = zip(old.scenario["cabinets"], new.scenario["cabinets"], strict=True)
+    both = [(tables_of(before), tables_of(after)) for before, after in streets]
+    same, made = alike(both), dict[int, Load]()
     for load in found:
         number = load["cabinet"]
         if number not in places:
             words = f"intersection {number} ({new.names.called(number)}) changes, too, and has no address"
             raise Fault(f"{words}: {number}=HOST:PORT, or --only with the numbers of those that are to be loaded")
         if number not in made:
-            tables = before[number - 1], tables_of(new.scenario["cabinets"][number - 1])
-            made[number] = Load(number, new.names.called(number), places[number], *tables)
-            alike = [at for at, it in enumerate(before, 1) if at != number and not differing(it, tables[0])]
-            made[number].alike = [f"intersection {at} ({new.names.called(at)})" for at in alike]
+            made[number] = Load(number, new.names.called(number), places[number], *both[number - 1])
+            made[number].called_before = old.names.called(number)
+            made[number].alike = [f"intersection {at} ({new.names.called(at)})" for at in same[number - 1]]
         made[number].downloads.append(load["cells"])
     return list(made.values())
 
@@ -202,16 +222,19 @@ def send(loads: list[Load], community: str, first: int, by_address: bool) -> Ite
     """Reads all devices, then sends each its downloads; yields what was done, in words. All devices that can't be
     loaded are named at once."""
     devices = [Device(it, Agent(it.where.host, it.where.port, community)) for it in loads]
-    faults = []
+    faults, waiting = [], []
     for it in devices:
         try:
-            it.check(by_address)
+            waiting += [it] if it.check(by_address) else []
         except Fault as fault:
             faults.append(str(fault))
     if faults:
         raise Wrong("\n".join([*faults, "nothing was set"]))
-    yield f"{len(devices)} device{'s'[: len(devices) - 1]} read: each has the old plan"
+    yield f"{len(devices)} device{'s'[: len(devices) - 1]} read: each is its intersection's"
     for it in devices:
+        if it not in waiting:
+            yield f"{it.load}: it has the new plan already"
+            continue
         number = first
         for cells in it.load.downloads:
             number = it.download(cells, number) + 1

@@ -10,7 +10,7 @@ import subprocess
 import pytest
 
 from streettools.cabinet.messages import GET
-from streettools.plan import addresses, live, reading, toml_text, walk
+from streettools.plan import addresses, live, reading, sending, toml_text, walk
 from streettools.shared.cells import tables_of
 from streettools.shared.fault import Fault
 
@@ -69,7 +69,7 @@ def held(first):
 
 def test_each_intersection_gets_its_own_tables(program, plans, tmp_path):
     """Ports are counted up as the street counts them: the intersections that change hold the new plan, the other one
-    the old one. Sent once more, nothing is set; and back again with the next id."""
+    the old one. Sent once more, nothing is left to set; and back again with the next id."""
     with live_street(program, plans[0], tmp_path) as first:
         ran = plan("loads", *plans, "--sets", f"127.0.0.1:{first}+", "--send")
         assert ran.returncode == 0, ran.stderr
@@ -82,7 +82,7 @@ def test_each_intersection_gets_its_own_tables(program, plans, tmp_path):
         ]
         assert held(first) == NEW
         again = plan("loads", *plans, "--sets", f"127.0.0.1:{first}+", "--send")
-        assert again.returncode == 2 and again.stderr.count(b"it has the new plan already") == 2
+        assert again.returncode == 0 and again.stdout.count(b"it has the new plan already") == 2
         back = plan("loads", *reversed(plans), "--sets", f"127.0.0.1:{first}+", "--send")
         assert back.returncode == 0 and held(first) == OLD
 
@@ -174,6 +174,14 @@ def test_a_name_with_a_control_character_does_not_reach_the_terminal(tmp_path, s
     made = plan("loads", old, new, "--sets", "127.0.0.1:10161")
     text = made.stdout.decode() + made.stderr.decode()
     assert len(text.splitlines()) <= 3 and all(it.isprintable() for it in text.splitlines())
+
+
+def test_tables_that_another_intersection_has_before_or_after_tell_nothing():
+    """Intersection 2 gets the tables that 3 had, 4 has those of 1 all along; 5 is like none."""
+    made = {name: tables_of(reading.street_of(toml_text.read(HEAD + ROW.format("x", 10, at))).scenario["cabinets"][0])
+            for at, name in enumerate("abcde")}  # fmt: skip
+    pairs = [("a", "a"), ("b", "c"), ("c", "d"), ("a", "a"), ("e", "e")]
+    assert sending.alike([(made[one], made[other]) for one, other in pairs]) == [[4], [3], [2], [1], []]
 
 
 def test_a_sheet_in_the_tests_is_what_it_says():
