@@ -114,8 +114,9 @@ class Movements:
     def row(self, host: str, members: list[str]) -> dict[str, Any] | None:
         """Returns a movement, with the volumes of all that share its lanes."""
         phase, permitted = self.phases(host)
-        if phase is None:
-            self.node.note(f"{host} has no phase, and is left out of the volumes")
+        if phase not in self.node.used:
+            said = "no phase" if phase is None else f"phase {phase}, which has no times"
+            self.node.note(f"{host} has {said}, and is left out of the volumes")
             return None
         volumes = {it: self.volume(it) for it in members}
         total = sum(volumes.values())
@@ -149,7 +150,10 @@ def tidy(value: float) -> float | int:
 
 def crossings(node: Node) -> list[dict[str, Any]]:
     """Returns the persons an hour who press the button of each phase."""
-    persons = {phase: node.at("PedCalls", phase) for phase in node.used if node.at("Walk", phase)}
+    persons = {phase: node.at("PedCalls", phase) for phase in node.used}
+    for phase in [it for it, count in persons.items() if count and not node.at("Walk", it)]:
+        node.note(f"PedCalls of phase {phase} is left out: the phase has no Walk")
+        del persons[phase]
     return [{"phase": phase, "persons": tidy(it)} for phase, it in persons.items() if it]
 
 

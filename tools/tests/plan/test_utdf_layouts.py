@@ -328,6 +328,20 @@ def test_volumes_that_were_not_asked_for_are_named(tmp_path):
     assert ran.returncode == 2 and b"no record Volume in it" in ran.stderr and not (tmp_path / "x.toml").exists()
 
 
+def test_traffic_without_a_phase_that_serves_it_is_named():
+    """A phase without times, none at all, a button without walk, a volume without lanes."""
+    text = ONE.replace("Phase1,1,,8,,,4,,5,2,,1,6,", "Phase1,1,,7,,,4,,5,,,1,6,").replace("Walk,1,,7", "Walk,1,,")
+    text = text.replace("DontWalk,1,,11", "DontWalk,1,,").replace("Lanes,3,1,0,1", "Lanes,3,,,")
+    notes = imported([("syn.csv", text)]).notes
+    for words in (
+        "node 1: NBT has phase 7, which has no times, and is left out of the volumes",
+        "node 1: EBT has no phase, and is left out of the volumes",
+        "node 1: PedCalls of phase 2 is left out: the phase has no Walk",
+        "node 3: NBL has a volume and no lanes, and is left out of the volumes",
+    ):
+        assert words in notes
+
+
 def test_a_way_without_time_is_reckoned_from_length_and_speed():
     """At 40 miles an hour, 58.67 feet a second: 700 feet in 11.9 s and 500 feet in 8.5 s, in tenths."""
     text = re.sub("Time,.*\n", "", ONE)
