@@ -145,6 +145,10 @@ run_sheet() {
     set_python
     made=$("$found" -B "$tools/streettools" plan scenario "$1") || exit
     say "$1 is a timing sheet: the scenario that it makes is run (arterial plan scenario writes it)"
+    case $made in
+    *'"inputs":'*) ;;
+    *) say "nobody comes in this run: arterial cosim queues brings vehicles, recall = \"maximum\" in the sheet calls" ;;
+    esac
     exec <<END
 $made
 END

@@ -123,6 +123,14 @@ def outside(links: Links) -> Iterator[str]:
         yield f"not taken from [Links]: Distance and Time of approaches from outside: {', '.join(words)}"
 
 
+def without_phases(utdf: Utdf, links: Links) -> Iterator[str]:
+    """Yields the words for nodes with lanes or counts that have no phases."""
+    rows = (*utdf.records("lanes"), *utdf.records("volumes"))
+    nodes = dict.fromkeys(str(it.get("INTID", "")) for it in rows if has_value("lanes", it))
+    if left := [it for it in nodes if it and it not in links.ends]:
+        yield f"no phases, so no intersection of the sheet: node{'s'[: len(left) - 1]} {', '.join(left)}"
+
+
 def notes(utdf: Utdf, links: Links, has_volumes: bool) -> list[str]:
     """Returns the words for all that isn't taken; without volumes nothing of lane groups is, but what names phases."""
     taken = dict(TAKEN)
@@ -130,6 +138,6 @@ def notes(utdf: Utdf, links: Links, has_volumes: bool) -> list[str]:
         taken["lanes"] = tuple(it for it in TAKEN["lanes"] if it not in FOR_VOLUMES)
     found = [note for section, names in taken.items() for note in records_left(utdf, section, names)]
     found += [note for section in COLUMNS for note in columns_left(utdf, section)]
-    found += [*lane_columns_left(utdf), *outside(links)]
+    found += [*lane_columns_left(utdf), *outside(links), *without_phases(utdf, links)]
     found += [f"section [{name}] is not known" for name in utdf.sections if name not in SECTIONS]
     return found + [f"not understood: {it}" for it in dict.fromkeys(utdf.strange)]

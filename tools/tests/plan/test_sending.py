@@ -39,13 +39,12 @@ def plans(tmp_path):
 
 
 @contextlib.contextmanager
-def live_street(program, sheet_file, folder, *words):
-    """A street of live cabinets, one behind the other from the port that it gives."""
-    scenario = folder / "live.json"
-    assert plan("scenario", sheet_file, "-o", scenario).returncode == 0
+def live_street(program, sheet_file, *words):
+    """A street of live cabinets from a sheet, one behind the other from the port that it gives."""
     for first in range(30_000 + os.getpid() % 5000, 60_000, 16):
         command = ["/usr/bin/python3", "-B", TOP / "tools/streettools", "street", "--program", program]
-        command += ["--speed", "step", "--ticks-per-message", 1, "--ports", f"{first}+", "--scenario", scenario, *words]
+        command += ["--speed", "step", "--ticks-per-message", 1, "--scenario", sheet_file]
+        command += ["--ports", f"{first}+", *words]
         street = subprocess.Popen(list(map(str, command)), stderr=subprocess.PIPE, text=True)
         if re.search(r"answer", street.stderr.readline()):
             break
@@ -67,10 +66,10 @@ def held(first):
     return found
 
 
-def test_each_intersection_gets_its_own_tables(program, plans, tmp_path):
+def test_each_intersection_gets_its_own_tables(program, plans):
     """Ports are counted up as the street counts them: the intersections that change hold the new plan, the other one
     the old one. Sent once more, nothing is left to set; and back again with the next id."""
-    with live_street(program, plans[0], tmp_path) as first:
+    with live_street(program, plans[0]) as first:
         ran = plan("loads", *plans, "--sets", f"127.0.0.1:{first}+", "--send")
         assert ran.returncode == 0, ran.stderr
         said = ran.stdout.decode().splitlines()
@@ -87,9 +86,9 @@ def test_each_intersection_gets_its_own_tables(program, plans, tmp_path):
         assert back.returncode == 0 and held(first) == OLD
 
 
-def test_a_device_of_another_intersection_is_refused_and_nothing_is_set(program, plans, tmp_path):
+def test_a_device_of_another_intersection_is_refused_and_nothing_is_set(program, plans):
     """The addresses of two intersections are exchanged: their tables tell. Then the first one's device is given."""
-    with live_street(program, plans[0], tmp_path) as first:
+    with live_street(program, plans[0]) as first:
         words = [f"--sets=3=127.0.0.1:{first + 1}", f"--sets=2=127.0.0.1:{first + 2}", "--send"]
         ran = plan("loads", *plans, *words)
         assert ran.returncode == 2 and ran.stderr.count(b"its tables aren't those of the old plan") == 2
@@ -103,12 +102,12 @@ def test_a_device_with_another_name_is_refused(program, tmp_path):
     """Tables that are the same everywhere: sysName tells the devices apart, and without it only --by-address does."""
     old, new = [(10, 0)] * 3, [(10, 0), (10, 0), (10, 7)]
     files = sheet(tmp_path, "old.toml", old), sheet(tmp_path, "new.toml", new)
-    with live_street(program, files[0], tmp_path, "--as", "ntcip1202") as first:
+    with live_street(program, files[0], "--as", "ntcip1202") as first:
         ran = plan("loads", *files, f"--sets=3=127.0.0.1:{first + 1}", "--send")
         assert ran.returncode == 2 and b"the device there is called 'Harbor & Mill' (sysName)" in ran.stderr
         assert plan("loads", *files, f"--sets=127.0.0.1:{first}+", "--send").returncode == 0
         assert held(first) == new
-    with live_street(program, files[0], tmp_path) as first:
+    with live_street(program, files[0]) as first:
         ran = plan("loads", *files, f"--sets=127.0.0.1:{first}+", "--send")
         assert ran.returncode == 2 and b"its tables are also those of intersection 1 (Harbor & Front), " in ran.stderr
         assert held(first) == old

@@ -282,6 +282,11 @@ def test_each_field_that_is_not_taken_is_named_once():
     }
 
 
+def test_an_intersection_without_signals_is_named():
+    text = ONE.replace("Lanes,3,1,0", "Lanes,2,,,,,,,,1,,,1,\nLanes,3,1,0")
+    assert "no phases, so no intersection of the sheet: node 2" in imported([("syn.csv", text)]).notes
+
+
 def test_a_semi_actuated_intersection_keeps_its_timing_plan_and_runs_free():
     """Control type 2: cycle, offset and splits are pattern 1, which isn't in command; and so it goes back. Where its
     splits don't make a pattern they are named. Control type 1 is named, too."""
