@@ -39,7 +39,7 @@ IN_FORCE_SECONDS = 5.0
 class Load:
     """What an intersection's device gets: its number and name, where it is, its tables before and after, and the
     downloads between them, each a list of cells. `alike` are the intersections that only a name tells from it,
-    `called_before` is its name in the old plan."""
+    `called_before` is its name in the old plan, `held` the intersections by their tables in the old plan."""
 
     number: int
     called: str
@@ -49,6 +49,7 @@ class Load:
     downloads: list[Cells] = field(default_factory=list)
     alike: list[str] = field(default_factory=list)
     called_before: str = ""
+    held: dict[tuple[Value, ...], str] = field(default_factory=dict)
 
     def __str__(self) -> str:
         return f"intersection {self.number} ({self.called}) at {self.where}"
@@ -136,8 +137,9 @@ class Device:
         """Returns the words for tables that aren't those of the old plan."""
         said = [f"{place(it)} is {shown(it, found[it])}, not {shown(it, value(self.load.old, it))}" for it in other]
         more = f"; and {len(said) - MOST_SHOWN} more" if len(said) > MOST_SHOWN else ""
-        where = self.load.where
-        hint = f"`./arterial plan from live {where}` writes what it has"
+        whose = self.load.held.get(tuple(found[cell] for cell in kinds()))
+        hint = f"`./arterial plan from live {self.load.where}` writes what it has"
+        hint = f"they are those of {whose}" if whose else hint
         return f"its tables aren't those of the old plan: {'; '.join(said[:MOST_SHOWN])}{more}; {hint}"
 
     def set(self, bindings: list[tuple[Name, int | bytes | None]]) -> Reply:
@@ -205,6 +207,10 @@ def loads_of(old: Street, new: Street, found: list[dict[str, Any]], places: dict
     streets = zip(old.scenario["cabinets"], new.scenario["cabinets"], strict=True)
     both = [(tables_of(before), tables_of(after)) for before, after in streets]
     same, made = alike(both), dict[int, Load]()
+    held = {
+        whole(before): f"intersection {number} ({old.names.called(number)})"
+        for number, (before, _) in enumerate(both, 1)
+    }
     for load in found:
         number = load["cabinet"]
         if number not in places:
@@ -212,7 +218,7 @@ def loads_of(old: Street, new: Street, found: list[dict[str, Any]], places: dict
             raise Fault(f"{words}: {number}=HOST:PORT, or --only with the numbers of those that are to be loaded")
         if number not in made:
             made[number] = Load(number, new.names.called(number), places[number], *both[number - 1])
-            made[number].called_before = old.names.called(number)
+            made[number].called_before, made[number].held = old.names.called(number), held
             made[number].alike = [f"intersection {at} ({new.names.called(at)})" for at in same[number - 1]]
         made[number].downloads.append(load["cells"])
     return list(made.values())

@@ -92,7 +92,8 @@ def test_a_device_of_another_intersection_is_refused_and_nothing_is_set(program,
         words = [f"--sets=3=127.0.0.1:{first + 1}", f"--sets=2=127.0.0.1:{first + 2}", "--send"]
         ran = plan("loads", *plans, *words)
         assert ran.returncode == 2 and ran.stderr.count(b"its tables aren't those of the old plan") == 2
-        assert b"pattern 1, offset is 40, not 20" in ran.stderr and b"nothing was set" in ran.stderr
+        assert b"pattern 1, offset is 40, not 20; they are those of intersection 3 (Harbor & Grant)" in ran.stderr
+        assert b"nothing was set" in ran.stderr
         ran = plan("loads", *plans, f"--sets=3=127.0.0.1:{first}", "--only", "3", "--send")
         assert ran.returncode == 2 and b"pattern 1, offset is 0, not 40" in ran.stderr
         assert held(first) == OLD
