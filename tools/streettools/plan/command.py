@@ -212,6 +212,11 @@ def add_exchange(parts) -> None:
     part.add_argument("--community", default="public", help="the community (default: public)")
     part.add_argument("--anywhere", action="store_true", help="allow a host other than this machine")
     add_output(part, OUTPUT, metavar="OUTPUT")
+    add_aims(parts)
+
+
+def add_aims(parts: "argparse._SubParsersAction[argparse.ArgumentParser]") -> None:
+    """Adds the parts that write for other software."""
     text = "write a plan for other software"
     part = parts.add_parser("to", help=text, description=f"{text[:1].upper()}{text[1:]}.")
     aims = part.add_subparsers(dest="aim", metavar="AIM", required=True)
