@@ -282,7 +282,10 @@ def do_loads(words: argparse.Namespace) -> int:
 def do_sets(words: argparse.Namespace, old: Street, new: Street, found: list[dict[str, Any]]) -> int:
     """Says what devices get, and sends it if that is asked for."""
     loads_here = sending.loads_of(old, new, found, addresses.places_of(words.sets, len(new.scenario["cabinets"])))
-    lines = [line for it in loads_here for line in it.lines()] or ["no value differs"]
+    lines = [line for it in loads_here for line in it.lines()]
+    if not loads_here:
+        write(words.output, "no value differs: nothing is set\n")
+        return Status.DONE
     if not words.send:
         lines.append("nothing is set: --send reads each device, and then sets it")
         write(words.output, "\n".join(lines) + "\n")

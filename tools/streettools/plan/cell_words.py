@@ -3,6 +3,7 @@
 from collections.abc import Mapping
 from typing import Any
 
+from ..shared.cells import Lists, kinds
 from ..shared.tables import Cell, Value
 from . import fields
 
@@ -34,8 +35,18 @@ def place(cell: Cell) -> str:
     raise AssertionError(f"{cell} is no cell")
 
 
+def fits(cell: Cell, value: Value) -> bool:
+    """Tells whether a value may be in a cell: a device can say others."""
+    kind = kinds()[cell]
+    if isinstance(kind, Lists):
+        return isinstance(value, tuple)
+    return isinstance(value, int) and kind.least <= value <= kind.most
+
+
 def shown(cell: Cell, value: Value) -> str:
-    """Returns what is in a cell, in seconds or words, as a sheet has it."""
+    """Returns what is in a cell, in seconds or words, as a sheet has it; what can't be in it as it is."""
+    if not fits(cell, value):
+        return " ".join(map(str, value)) if isinstance(value, tuple) else str(value)
     match cell:
         case ("phase", _, 21):
             found: object = ", ".join(f"{name} {fields.show_option(name, value)}" for name in fields.OPTIONS)

@@ -10,7 +10,7 @@ import subprocess
 import pytest
 
 from streettools.cabinet.messages import GET
-from streettools.plan import addresses, live, reading, sending, toml_text, walk
+from streettools.plan import addresses, cell_words, live, reading, sending, toml_text, walk
 from streettools.shared.cells import tables_of
 from streettools.shared.fault import Fault
 
@@ -130,6 +130,11 @@ def test_an_intersection_that_changes_needs_an_address_or_is_left_out_in_words(p
     assert ran.returncode == 0 and b"Harbor & Mill" not in ran.stdout and b"offset: 40 to 42" in ran.stdout
 
 
+def test_a_plan_that_does_not_differ_sets_nothing(plans):
+    ran = plan("loads", plans[0], plans[0], "--sets", "127.0.0.1:1+", "--send")
+    assert (ran.returncode, ran.stdout) == (0, b"no value differs: nothing is set\n")
+
+
 def test_other_machines_are_set_only_where_that_is_said(plans):
     ran = plan("loads", *plans, "--sets", "192.0.2.1:161+", "--send")
     assert ran.returncode == 2 and b"not on this machine" in ran.stderr
@@ -174,6 +179,16 @@ def test_a_name_with_a_control_character_does_not_reach_the_terminal(tmp_path, s
     made = plan("loads", old, new, "--sets", "127.0.0.1:10161")
     text = made.stdout.decode() + made.stderr.decode()
     assert len(text.splitlines()) <= 3 and all(it.isprintable() for it in text.splitlines())
+
+
+def test_values_of_a_device_are_shown_whatever_they_are():
+    """As a sheet has them, in seconds and words; what can't be in a cell as it came."""
+    values = {
+        ("phase", 2, 20): [(4, "green"), (99, "99"), ((1, 2), "1 2")], ("phase", 2, 8): [(43, "4.3"), (-7, "-7")],
+        ("phase", 2, 23): [((5, 6), "5 6"), ((), "none"), (7, "7")], ("split", 1, 2, 4): [(7, "omitted"), (8, "8")],
+        ("split", 1, 2, 5): [(1, "yes"), (2, "2")], ("unit", 7): [(2, "floating"), (3, "3")],
+    }  # fmt: skip
+    assert all(cell_words.shown(cell, value) == said for cell, rows in values.items() for value, said in rows)
 
 
 def test_tables_that_another_intersection_has_before_or_after_tell_nothing():
