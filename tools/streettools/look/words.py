@@ -63,7 +63,8 @@ def add_reader(commands, name, text):
                                 formatter_class=argparse.HelpFormatter)  # fmt: skip
     found.add_argument("trace", nargs="?", help="the trace's file (default: standard input, as with -)")
     found.add_argument("--names", metavar="FILE", help="names of cabinets and phases, as `arterial plan scenario` "
-                       "writes them; placeholder phases are left out. Of a timing sheet also start and travel")  # fmt: skip
+                       "writes them; placeholder phases are left out. A timing sheet also gives start and "
+                       "travel")  # fmt: skip
     found.add_argument("--no-check", action="store_true", help="don't let `arterial check` check the text")
     return found
 
