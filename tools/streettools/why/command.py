@@ -16,7 +16,7 @@ EPILOG = """examples:
   ./arterial why - --phase 4 --at 4330t --json < trace     the reasons as data; t is ticks of 0.1 s
 
 The model (model/README.md) takes the cabinet through the trace once more; docs/WHY.md lists the reasons.
-Exit status: 0 done, 1 a file can't be read or written, 2 the words or the text can't be taken, 130 Ctrl-C.
+Exit status: 0 done, 1 a file can't be read or written, 2 the arguments or the text are invalid, 130 Ctrl-C.
 """
 
 
