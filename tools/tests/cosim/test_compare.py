@@ -59,8 +59,8 @@ def test_sumos_nema_controller_runs_the_same_street(tmp_path):
 @pytest.mark.parametrize(
     ("text", "line"),
     [
-        (HEAD + plan("one"), "plan has to stand there twice or more"),
-        (HEAD + plan("one") + plan("one"), "each with a name of its own"),
+        (HEAD + plan("one"), "plan is needed at least twice"),
+        (HEAD + plan("one") + plan("one"), "each with a different name"),
         (HEAD + plan("one") + plan("two", 'controller = "hand"'), "controller is hand"),
         (HEAD + 'against = "three"\n' + plan("one") + plan("two"), "no plan has this name"),
         (HEAD.replace("warm = 5", "warm = 30") + plan("one") + plan("two"), "warm leaves nothing"),

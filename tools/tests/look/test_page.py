@@ -163,7 +163,7 @@ def test_a_name_with_marks_of_html_stays_a_name(paged, tmp_path):
         (["-o", "page.svg"], SMALL, 2, "the page's name must end in .html"),
         ([], SMALL, 2, "-o/--output"),
         (["-o", "page.html"], SMALL.replace("F 1 160 ", "F 1 600 "), 2, "line 10 is not a line of a trace"),
-        (["-o", "page.html"], SMALL.removesuffix("Z 7\n"), 2, "it ends before its Z line"),
+        (["-o", "page.html"], SMALL.removesuffix("Z 7\n"), 2, "the trace ends before its Z line"),
         (["-o", "page.html"], "no trace", 2, "line 1 is not a line of a trace"),
         (["-o", "page.html", "--cabinets", "1,2"], SMALL, 2, "the trace has no cabinet 2"),
         (["-o", "page.html", "--cabinets", "1,1"], PAIR, 2, "a cabinet is named twice"),
