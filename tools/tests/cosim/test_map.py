@@ -184,7 +184,7 @@ def test_a_permissive_turn_that_meets_traffic_to_which_it_doesnt_yield_is_refuse
 @pytest.mark.parametrize(
     ("old", "new", "line"),
     [
-        ('name = "WBL"\nphase = 1', 'name = "WBL"\nphase = 1\npermissive = 1', "permissive is another phase"),
+        ('name = "WBL"\nphase = 1', 'name = "WBL"\nphase = 1\npermissive = 1', "permissive must differ from the phase"),
         ('name = "WBL"\nphase = 1', 'name = "WBL"\nphase = 1\npermissive = 9', "phase 9 is not enabled in cabinet 1"),
         ('name = "EBT"', 'parents = [2, 3]\nname = "EBT"', "phase is needed, or parents in its place"),
     ],
