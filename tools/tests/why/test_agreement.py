@@ -28,6 +28,9 @@ ALL = "WHY_ALL" in os.environ
 BYTES = 10**9 if ALL else 20_000 if COUNT > 500 else 12_000
 """Traces have at most so many bytes."""
 
+COORDINATED = ("street", "coord-01", "coord-04", "coord-07")
+"""Longer traces that are taken, too."""
+
 FIRST = 5_000 if ALL else 1_500
 """Ticks are among the first so many."""
 
@@ -77,16 +80,21 @@ class Letters:
 
 
 def drawn():
-    """Returns the ticks and phases that are asked for, by trace and cabinet."""
+    """Returns the ticks and phases that are asked for, by trace and cabinet: any ticks, and ticks around a green."""
     draw, found = random.Random(SEED), defaultdict(list)
-    chosen = [path for path in TRACES if path.stat().st_size <= BYTES]
+    chosen = [path for path in TRACES if path.stat().st_size <= BYTES or path.stem in COORDINATED]
     texts = {path: replay.read(str(path)) for path in chosen}
     for _ in range(COUNT):
         path = draw.choice(chosen)
         number = draw.randint(1, len(texts[path].scenario.cabinets))
         tables = texts[path].scenario.cabinets[number - 1].tables
         phase = draw.choice(sorted(enabled(tables))) if draw.random() < 0.95 else draw.randint(1, 16)
-        found[path, number].append((phase, draw.randint(1, min(FIRST, texts[path].ticks))))
+        last = min(FIRST, texts[path].ticks)
+        begins = [it for it in replay.Shown(texts[path], number, phase).begins if it <= last]
+        tick = draw.randint(1, last)
+        if begins and draw.random() < 0.6:
+            tick = min(last, max(1, draw.choice(begins) + draw.randint(-400, 600)))
+        found[path, number].append((phase, tick))
     return [(path, texts[path], number, asked) for (path, number), asked in sorted(found.items(), key=str)]
 
 
