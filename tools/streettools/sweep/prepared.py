@@ -19,7 +19,7 @@ from .variants import Variant, Variants
 HERE = Path(__file__).resolve().parents[1]
 FOLDERS = (
     ("shared", "*"), ("sweep", "*"), ("cosim/queues", "*"), ("cosim", "__init__"), ("cosim", "movements"),
-    ("cosim", "records"),
+    ("cosim", "records"), ("cosim", "session"),
 )  # fmt: skip
 """Where the modules are that a run needs, with those of the model of queues: folders and names."""
 

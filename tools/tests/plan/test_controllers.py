@@ -165,7 +165,7 @@ def test_other_machines_are_asked_only_where_that_is_said():
 def test_an_agent_that_does_not_answer_is_told(monkeypatch):
     """Three tries, one line."""
     monkeypatch.setattr(live, "SECONDS", 0.05)
-    with pytest.raises(Unreadable, match="no answer in 3 tries"):
+    with pytest.raises(Unreadable, match="no answer in 3 attempts"):
         live.walk(live.Agent("127.0.0.1", 9, "public"))
 
 

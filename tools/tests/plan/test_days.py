@@ -134,7 +134,7 @@ def test_each_day_plan_is_checked(week):
     ran = plan("check", week(("{at = 08:00:00, pattern = 1}", "{at = 08:00:00, pattern = 7}")))
     assert ran.returncode == 0
     text = ran.stdout.decode()
-    assert "warning: day plan 'market': the schedule commands pattern 7, which isn't defined" in text
+    assert ": day plan 'market': the schedule commands pattern 7 at 08:00:00, which isn't defined" in text
     assert "note: the schedule is that of day plan 'working day'" in text
 
 

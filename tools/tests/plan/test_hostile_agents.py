@@ -115,7 +115,7 @@ def test_answers_to_other_questions_are_no_answers():
             yield response(number, [])
 
     said, _, seconds = outcome(answers)
-    assert "no answer in 3 tries (" in said and "datagrams were not answers)" in said and seconds < 5
+    assert "no answer in 3 attempts (" in said and "datagrams were not answers)" in said and seconds < 5
 
 
 MALFORMED = [
@@ -130,7 +130,7 @@ MALFORMED = [
 @pytest.mark.parametrize("datagram", MALFORMED, ids=range(len(MALFORMED)))
 def test_malformed_answers_are_no_answers(datagram):
     said, _, seconds = outcome(lambda octets: iter([datagram]))
-    assert "no answer in 3 tries (3 datagrams were not answers)" in said and seconds < 5
+    assert "no answer in 3 attempts (3 datagrams were not answers)" in said and seconds < 5
 
 
 def test_a_name_without_octets_is_no_answer():
@@ -142,12 +142,12 @@ def test_a_name_without_octets_is_no_answer():
         body = integer(asked.number) + integer(0) * 2 + pairs
         yield field(0x30, integer(0) + field(4, b"public") + field(0xA2, body))
 
-    assert "no answer in 3 tries (3 datagrams" in outcome(answers)[0]
+    assert "no answer in 3 attempts (3 datagrams" in outcome(answers)[0]
 
 
 def test_a_question_that_comes_back_is_no_answer():
     """An agent that sends back each datagram as it came."""
-    assert "no answer in 3 tries (3 datagrams" in outcome(lambda octets: iter([octets]))[0]
+    assert "no answer in 3 attempts (3 datagrams" in outcome(lambda octets: iter([octets]))[0]
 
 
 def test_answers_of_another_port_do_not_come_in():
@@ -166,7 +166,7 @@ def test_answers_of_another_port_do_not_come_in():
     own = socket.socket(socket.AF_INET, socket.SOCK_DGRAM)
     own.bind(("127.0.0.1", 0))
     threading.Thread(target=serve, args=[own], daemon=True).start()
-    with pytest.raises(Unreadable, match=r"no answer in 3 tries; is it the port"):
+    with pytest.raises(Unreadable, match=r"no answer in 3 attempts; check the port"):
         live.walk(live.Agent("127.0.0.1", own.getsockname()[1], "public"))
     own.close()
     other.close()

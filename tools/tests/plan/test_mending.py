@@ -8,8 +8,9 @@ import subprocess
 import pytest
 
 from streettools.cabinet.messages import OCTETS, SET, Reply
-from streettools.plan import addresses, fix, loads, names, pattern_rules, reading, rules, sending, walk
+from streettools.plan import addresses, fix, loads, names, pattern_rules, reading, rules, sending
 from streettools.shared.cells import differing, with_cells
+from streettools.shared.oids import OWN
 from streettools.shared.tables import Tables
 
 from .random_tables import cells_of
@@ -54,7 +55,7 @@ def test_a_cycle_that_is_too_short_is_told_with_the_least():
     """The side needs 10 s for 3 and 25 s for 4; the main street 10 s for 1, and 28 s (3 and 19, and 5.5 behind, rounded
     up): 73 s."""
     with pytest.raises(
-        fix.NoChange, match="no splits keep the rules in a cycle of 60 s; it needs a cycle of 73 s at least"
+        fix.NoChange, match="no splits keep the rules in a cycle of 60 s; it needs a cycle of at least 73 s"
     ):
         fix.least_change(tables_with(["pattern", 1, 2, 60]), 1, NOBODY)
 
@@ -194,7 +195,7 @@ def test_random_plans_are_reached_from_each_other():
 def test_rings_that_change_need_flash():
     """Rule 21, in words; with the word that the cabinets flash the download is written."""
     new = tables_with(*TWO, ["pattern", 1, 2, 0])
-    with pytest.raises(loads.NoWay, match="turns phase 1 off; a cabinet takes that in flash alone"):
+    with pytest.raises(loads.NoWay, match="turns phase 1 off; a cabinet accepts that only in flash"):
         loads.downloads(Tables("std8"), new)
     assert len(loads.downloads(Tables("std8"), new, flash=True)) == 1
 
@@ -207,7 +208,7 @@ class Noted:
 
     def ask(self, kind, bindings):
         """Returns the answer to a message."""
-        own = (*walk.OWN, 1)
+        own = (*OWN, 1)
         if kind == SET:
             self.sets.append([(".".join(map(str, name)), it) for name, it in bindings])
             self.values |= {name: it for name, it in bindings if name[: len(own)] != own}

@@ -119,8 +119,8 @@ FOUND = {
     ),
     "a list of concurrent phases on one side alone": (
         {'4 = {name = "Front north", ': '4 = {name = "Front north", concurrent = [7], '},
-        "Front St: error, rule 3: phase 8 (Front south) may be on beside phase 4 (Front north), but not the other way "
-        "round: 4 lists 7; put 8 into the list of 4, or take 4 out of that of 8",
+        "Front St: error, rule 3: phase 8 (Front south) may be on with phase 4 (Front north), but not the other way "
+        "round: 4 lists 7; put 8 into the list of 4, or remove 4 from that of 8",
     ),
     "a pairing that is swapped": (
         {RINGS: '["1 2 | 3 8", "5 6 | 7 4"]'},

@@ -10,9 +10,10 @@ import subprocess
 import pytest
 
 from streettools.cabinet.messages import GET
-from streettools.plan import addresses, cell_words, live, reading, sending, toml_text, walk
+from streettools.plan import addresses, cell_words, live, reading, sending, toml_text
 from streettools.shared.cells import tables_of
 from streettools.shared.fault import Fault
+from streettools.shared.oids import ASC
 
 from .conftest import SECONDS, TOP, plan
 
@@ -60,7 +61,7 @@ def held(first):
     """Returns what the devices hold: minimum green of phase 2 and offset of pattern 1."""
     found = []
     for port in (first, first + 1, first + 2):
-        asked = [((*walk.ASC, 1, 2, 1, 4, 2), None), ((*walk.ASC, 4, 7, 1, 3, 1), None)]
+        asked = [((*ASC, 1, 2, 1, 4, 2), None), ((*ASC, 4, 7, 1, 3, 1), None)]
         reply = live.Agent("127.0.0.1", port, "public").ask(GET, asked)
         found.append(tuple(int.from_bytes(content, "big") for _, __, content in reply.bindings))
     return found
