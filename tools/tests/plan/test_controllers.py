@@ -66,7 +66,7 @@ def test_objects_without_a_place_are_listed():
         "no place for 1 of phaseTable: 1.3.6.1.4.1.1206.4.2.1.1.2.1.4.17",
         "no place for 1 of preemptTable (out of range)",
         "no place for 1 of overlap", "no place for 1 of others: 1.3.6.1.2.1.1.1.0", "no place for 1 of maxPhases",
-        "detector 3: delay of 2.5 s is taken as 3 s",
+        "detector 3: delay of 2.5 s is rounded to 3 s, whole rounds",
     ):  # fmt: skip
         assert words in notes
 

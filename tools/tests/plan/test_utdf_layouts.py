@@ -11,7 +11,7 @@ from streettools.plan import reading, toml_text, utdf_in, utdf_out, utdf_text, v
 from streettools.plan.given import Unreadable
 from streettools.shared.cells import tables_of
 
-from .conftest import plan, said
+from .conftest import TOP, plan, said
 
 NETWORK = "[Network]\nNetwork Settings\nRECORDNAME,DATA\nUTDFVERSION,8\nMetric,0\n"
 NODES = """[Nodes]
@@ -351,3 +351,7 @@ def test_a_way_without_time_is_reckoned_from_length_and_speed():
     """At 40 miles an hour, 58.67 feet a second: 700 feet in 11.9 s and 500 feet in 8.5 s, in tenths."""
     text = re.sub("Time,.*\n", "", ONE)
     assert imported([("syn.csv", text)]).sheet["intersection"][0]["travel"] == 20.4
+
+
+def test_the_example_of_the_documents_is_the_street_in_one_file():
+    assert (TOP / "scenarios/sheets/elm-street.utdf.csv").read_text() == ONE

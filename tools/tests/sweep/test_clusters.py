@@ -229,7 +229,7 @@ def test_the_certificate_is_this_users_alone(cluster):
 
 def test_words_about_workers_that_dont_go_together_are_refused(folder):
     for words, line in (
-        (["--scheduler", "tcp://127.0.0.1:8786"], "only tls://HOST:PORT is taken"),
+        (["--scheduler", "tcp://127.0.0.1:8786"], "expected tls://HOST:PORT"),
         (["--scheduler", "tls://127.0.0.1:8786"], "goes with --tls-ca, --tls-cert and --tls-key"),
         (["--tls-ca", "x"], "goes with --tls-ca, --tls-cert and --tls-key"),
         (["--slurm"], "--slurm goes with --interface NAME"),

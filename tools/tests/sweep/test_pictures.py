@@ -52,7 +52,7 @@ def test_each_kind_of_picture_is_drawn_and_comes_out_the_same(words, table):
 @pytest.mark.parametrize(("words", "said"), [
     (["lines", "t.csv", "--x", "c", "--of", "wait_mean", "-o", "a.svg"], "has no column c: it has run, a, b"),
     (["lines", "t.csv", "--x", "a", "--of", "b", "-o", "a.svg"], "the column b has no numbers"),
-    (["frontier", "t.csv", "--least", "wait_mean", "-o", "a.svg"], "a frontier is that of two measures"),
+    (["frontier", "t.csv", "--least", "wait_mean", "-o", "a.svg"], "a frontier needs two measures"),
     (["lines", "none.csv", "--x", "a", "--of", "b", "-o", "a.svg"], "none.csv: No such file or directory"),
 ])  # fmt: skip
 def test_what_can_not_be_drawn_is_one_line(words, said, table, capsys):
