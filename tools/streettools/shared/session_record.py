@@ -10,7 +10,7 @@ from collections import defaultdict
 from collections.abc import Iterator
 from typing import Any, NamedTuple
 
-from .session import LISTS
+from .session import LISTS, Answers
 from .snmp import SET, head_of
 
 PASSES = {"poll": 1, "load": 2, "priority": 3}
@@ -222,3 +222,13 @@ class SessionRecord:
         yield b"S " + compact(self.resulting()) + b"\n"
         for line in self.lines:
             yield line + b"\n"
+
+
+def trace_of_session(dialogue: bytes, output: bytes, keeps_reads: bool = True) -> bytes:
+    """Returns the trace of a session by its whole input and its whole output."""
+    first, *requests = dialogue.split(b"\n")
+    record = SessionRecord(json.loads(first), keeps_reads)
+    asked = [None, *requests[:-1], None]
+    for request, answer in zip(asked, Answers().fed(output)):
+        record.answered(request, answer)
+    return b"".join(record.trace())
