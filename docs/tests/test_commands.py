@@ -33,6 +33,7 @@ NOT_RUN = {
     r"(export|to=|snmp\w+ \$to) ?": "the dialogue of docs/CLIENTS.md, which tools/tests/cabinet/test_dialogue.py runs",
     r".*session\.json": "what a live cabinet has recorded; tools/tests/cabinet makes one",
     r"snmpwalk .* HOST ": "it asks a controller in the street",
+    r".*--send\b": "it sets what devices hold; tools/tests/plan/test_sending.py does so with a street",
     r"\./arterial plan from live ": "it asks a live cabinet; tools/tests/plan/test_controllers.py does so",
     r"vectors/(?!judge trace)": "./test runs it, or it is a form with the reader's words",
     r".*rt run\)": "it proves a crate",

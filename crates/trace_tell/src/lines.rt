@@ -37,14 +37,14 @@ pub fn tell_frame<T: Teller>(
     teller.tell(&line)
 }
 
-/// TellsLines the line of a frame with the number of its tick.
+/// Gives the teller the line of a frame with the number of its tick.
 fn tell_shown<T: Teller>(teller: &mut T, cab: u32, shown: &(u32, Frame)) -> Result<(), T::Fail>
     ensures { TellsLines T.told T.stopped result teller.old teller.new ((shown_line cab shown.now.0 shown.now.1) ∷ []) }
 {
     tell_frame(teller, cab, shown.0, &shown.1)
 }
 
-/// TellsLines the lines of frames with the numbers of their ticks.
+/// Gives the teller the lines of frames with the numbers of their ticks.
 pub fn tell_frames<T: Teller>(
     teller: &mut T,
     cab: u32,
@@ -61,7 +61,7 @@ pub fn tell_frames<T: Teller>(
     Ok(())
 }
 
-/// TellsLines the line of the end of a download, if the frame brought one.
+/// Gives the teller the line of the end of a download, if the frame brought one.
 fn tell_load<T: Teller>(teller: &mut T, cab: u32, load: &Option<Load>) -> Result<(), T::Fail>
     ensures { TellsLines T.told T.stopped result teller.old teller.new (load_lines cab load.now) }
 {
@@ -78,7 +78,7 @@ fn tell_load<T: Teller>(teller: &mut T, cab: u32, load: &Option<Load>) -> Result
     }
 }
 
-/// TellsLines the lines of a reply: the end of a download, if the frame brought one, and then the answer or silence.
+/// Gives the teller the lines of a reply: the end of a download, if the frame brought one, and then the answer or silence.
 pub fn tell_reply<T: Teller>(teller: &mut T, cab: u32, reply: &Reply) -> Result<(), T::Fail>
     ensures { TellsLines T.told T.stopped result teller.old teller.new (answer_lines cab reply.now) }
 {
@@ -89,7 +89,7 @@ pub fn tell_reply<T: Teller>(teller: &mut T, cab: u32, reply: &Reply) -> Result<
     teller.tell_answer(cab, reply.pass, &reply.text)
 }
 
-/// TellsLines the lines of replies.
+/// Gives the teller the lines of replies.
 pub fn tell_replies<T: Teller>(
     teller: &mut T,
     cab: u32,
@@ -123,7 +123,7 @@ fn frames_from(frames: &[(u32, Frame)], first: usize) -> &[(u32, Frame)]
     &frames[first..]
 }
 
-/// TellsLines the lines of replies, each after the frames that came before it, and then those of the frames that are left.
+/// Gives the teller the lines of replies, each after the frames that came before it, and then those of the frames that are left.
 pub fn tell_told<T: Teller>(
     teller: &mut T,
     cab: u32,
@@ -149,7 +149,7 @@ pub fn tell_told<T: Teller>(
     tell_frames(teller, cab, frames_from(frames, next))
 }
 
-/// TellsLines the lines of a cabinet's round, from its book.
+/// Gives the teller the lines of a cabinet's round, from its book.
 pub fn tell_book<T: Teller>(teller: &mut T, cab: u32, book: &Book) -> Result<(), T::Fail>
     requires { AreInOrder 0 (answered_in book.now) (length (written_in book.now)) }
     ensures { TellsLines T.told T.stopped result teller.old teller.new (book_lines cab book.now) }
@@ -161,14 +161,14 @@ pub fn tell_book<T: Teller>(teller: &mut T, cab: u32, book: &Book) -> Result<(),
     tell_told(teller, cab, book.written(), book.replies())
 }
 
-/// TellsLines the line of a note of the master.
+/// Gives the teller the line of a note of the master.
 fn tell_note<T: Teller>(teller: &mut T, note: &MasterNote) -> Result<(), T::Fail>
     ensures { TellsLines T.told T.stopped result teller.old teller.new ((LineRow.M note.now) ∷ []) }
 {
     teller.tell(&Line::M { note: *note })
 }
 
-/// TellsLines the lines of the master's notes.
+/// Gives the teller the lines of the master's notes.
 pub fn tell_notes<T: Teller>(teller: &mut T, notes: &[MasterNote]) -> Result<(), T::Fail>
     ensures { TellsLines T.told T.stopped result teller.old teller.new (map LineRow.M notes.now) }
 {

@@ -15,7 +15,7 @@ use round_run::books_follow_runs;
 use sig_types::MasterNote;
 use trace_text::Line;
 
-/// TellsLines the frame that each cabinet shows before any tick.
+/// Gives the teller the frame that each cabinet shows before any tick.
 pub fn tell_openings<T: Teller>(teller: &mut T, books: &Vec<Book>) -> Result<(), T::Fail>
     requires few { length books.now.items ≤ 64 }
     ensures { (ts : List CabinetState) → AreAt books.now.items ts
@@ -31,7 +31,7 @@ pub fn tell_openings<T: Teller>(teller: &mut T, books: &Vec<Book>) -> Result<(),
     Ok(())
 }
 
-/// TellsLines the lines of the round that the books have run, one cabinet after another.
+/// Gives the teller the lines of the round that the books have run, one cabinet after another.
 pub fn tell_books<T: Teller>(teller: &mut T, books: &Vec<Book>) -> Result<(), T::Fail>
     requires few { length books.now.items ≤ 64 }
     requires run { (s : ScenarioContent) × (ts : List CabinetState) × (journals : List (List ℕ)) × HaveRun s ts journals books.now.items }
@@ -48,7 +48,7 @@ pub fn tell_books<T: Teller>(teller: &mut T, books: &Vec<Book>) -> Result<(), T:
     Ok(())
 }
 
-/// TellsLines the lines of the round with this number: the number, the notes of the master at its start, and what the books have run.
+/// Gives the teller the lines of the round with this number: the number, the notes of the master at its start, and what the books have run.
 pub fn tell_round<T: Teller>(
     teller: &mut T,
     round: u32,

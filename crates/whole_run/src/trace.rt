@@ -27,7 +27,7 @@ use trace_tell::{Teller, tell_openings, tell_round};
 use trace_text::Line;
 use trace_writer::{Stop, Writer};
 
-/// TellsLines what each cabinet shows before any tick; then runs all rounds, and tells the lines of each when it is run.
+/// Gives the teller what each cabinet shows before any tick; then runs all rounds, and gives it the lines of each.
 fn tell_front<R: Threads + Sync, G: Gate + Sync, T: Teller>(
     crew: &Crew<R, G>,
     alloc: Global,
@@ -58,7 +58,7 @@ fn tell_front<R: Threads + Sync, G: Gate + Sync, T: Teller>(
     Ok(())
 }
 
-/// TellsLines a pen what each cabinet shows before any tick; then runs all rounds, and tells the lines of each when it is run.
+/// Gives a pen what each cabinet shows before any tick; then runs all rounds, and gives it the lines of each when it is run.
 fn pen_front<R: Threads + Sync, K: Sink, G: Gate + Sync>(
     crew: &Crew<R, G>,
     alloc: Global,

@@ -125,7 +125,7 @@ def test_an_interrupted_sweep_goes_on(folder, held, reference):
     held.let_go()
     words = ("study.toml", "-o", "out.csv", "--workers", 1, "--program", held.path)
     status, _, said = sweep(folder, *words)
-    assert status == 2 and "--resume continues with it" in said
+    assert status == 2 and "use --resume to continue" in said
     status, _, said = sweep(folder, *words, "--resume")
     assert status == 0 and f"{done} of them before" in said, said
     assert (folder / "out.csv").read_text() == reference
