@@ -85,7 +85,7 @@ def ranked(findings: list[Finding]) -> str:
 
 
 def counted(findings: list[Finding]) -> str:
-    """Returns how many there are of each level."""
+    """Returns the verdict, and how many there are of each level."""
     words = []
     for level, one, more in (
         (Level.ERROR, "error", "errors"),
@@ -95,4 +95,5 @@ def counted(findings: list[Finding]) -> str:
         count = sum(it.level is level for it in findings)
         ranks = ranked(findings) if level is Level.WARNING else ""
         words.append(f"{count or 'no'} {one if count == 1 else more}{ranks}")
-    return ", ".join(words)
+    verdict = "refused" if any(it.level is Level.ERROR for it in findings) else "accepted"
+    return f"{verdict}: {', '.join(words)}"

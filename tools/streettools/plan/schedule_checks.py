@@ -5,7 +5,7 @@ from collections.abc import Iterator
 from typing import NamedTuple
 
 from ..shared.cells import PATTERNS, value
-from ..shared.clock import day_text
+from ..shared.clock import day_text, looks_like_a_clock
 from ..shared.tables import Tables
 from .findings import Finding, Rank, warn
 from .reading import Street
@@ -115,11 +115,6 @@ def of_sections(street: Street) -> Iterator[Finding]:
             f"the schedule has no entry for section {section}, so the master commands no pattern here: write "
             f"section = {section} in an entry, or another section at the intersection"
         ))  # fmt: skip
-
-
-def looks_like_a_clock(second: int) -> bool:
-    """Tells whether a second of the day reads as hours and minutes, as 630."""
-    return 100 <= second < 2400 and second % 100 < 60
 
 
 def meant(second: int) -> int:

@@ -78,3 +78,8 @@ def day_text(seconds: float) -> str:
     tenths = round(10 * seconds) % 864_000
     whole, rest = divmod(tenths, 10)
     return f"{whole // 3600:02d}:{whole // 60 % 60:02d}:{whole % 60:02d}" + (f".{rest}" if rest else "")
+
+
+def looks_like_a_clock(second: int) -> bool:
+    """Tells whether a number of seconds reads as hours and minutes, as 630."""
+    return 100 <= second < 2400 and second % 100 < 60

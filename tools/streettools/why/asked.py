@@ -33,6 +33,14 @@ def moment(text: str) -> At:
         ) from None
 
 
+def doubt(at: At) -> str | None:
+    """Returns a line if a number of seconds looks like hours and minutes, as 713 for 07:13."""
+    if not (at.text.isdecimal() and at.text.isascii() and clock.looks_like_a_clock(int(at.text))):
+        return None
+    hours, minutes = divmod(int(at.text), 100)
+    return f"{at.text} is taken as seconds of the run; a time of day is written {hours:02}:{minutes:02}"
+
+
 class Times(NamedTuple):
     """The times of a run: the time of day of tick 0, in ticks, and how many ticks the run has. `is_of_day` tells
     whether times are shown as times of day."""
@@ -91,7 +99,7 @@ def cabinet(text: str | None, found: Called, cabinets: int) -> int:
     """Returns the number of the cabinet that a text names by its number, or by the name of its intersection."""
     if text is None:
         if cabinets > 1:
-            raise Fault(f"the trace has {cabinets} cabinets: --cabinet names one")
+            raise Fault(f"the trace has {cabinets} cabinets: add --cabinet N, 1 to {cabinets}, or a name")
         return 1
     if text.isdecimal() and text.isascii():
         if not 1 <= int(text) <= cabinets:

@@ -6,6 +6,7 @@ from ..shared import files
 from ..shared.clock import daytime
 from ..shared.commandline import Parser, add_json, add_output, number
 from ..shared.progress import bar
+from ..shared.saying import say
 from ..shared.status import Status
 from . import asked
 
@@ -52,6 +53,8 @@ def answered(words: argparse.Namespace) -> str:
     cabinet = asked.cabinet(words.cabinet, names, cabinets)
     times = asked.times(text.scenario, cabinet, words.start, words.at)
     tick = times.tick(words.at)
+    if doubt := asked.doubt(words.at):
+        say("why", doubt)
     shown = bar(tick, "tick", delay=1)
     try:
         found = story(text, cabinet, words.phase, tick, (lambda done: shown.update(done - shown.n)) if shown else None)

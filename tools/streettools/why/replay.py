@@ -78,6 +78,8 @@ def read(name: str) -> Text:
     if len(data) > MOST_TEXT:
         raise Fault(f"{called}: not a trace: it has more than {MOST_TEXT} bytes")
     first = data.partition(b"\n")[0]
+    if data.lstrip().startswith(b"{"):
+        raise Fault(f"{called}: a scenario, not a trace: run it first (./arterial run FILE > street.trace)")
     if not first.startswith(b"S "):
         raise Fault(f"{called}: not a trace: its first line has no scenario")
     try:

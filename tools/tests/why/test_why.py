@@ -13,6 +13,7 @@ from model.calls import Caller  # noqa: E402
 from model.commands import answer  # noqa: E402
 from model.rings import Ending  # noqa: E402
 from streettools import words as tools  # noqa: E402
+from streettools.why import asked  # noqa: E402
 from streettools.why.reasons import Kind  # noqa: E402
 from streettools.why.sentences import CALLERS, ENDINGS, RULES  # noqa: E402
 
@@ -214,3 +215,10 @@ def test_each_reason_has_words_a_rule_and_a_row_of_the_page():
 
 def test_the_command_is_one_of_the_tools():
     assert "why" in [it.name for it in tools.tools()] and pathlib.Path(TOP, "docs/WHY.md").is_file()
+
+
+def test_seconds_that_look_like_hours_and_minutes_are_named():
+    """713 is 11 minutes 53 seconds of the run, not 07:13; 799 can't be a time of day."""
+    said = "713 is taken as seconds of the run; a time of day is written 07:13"
+    assert asked.doubt(asked.moment("713")) == said
+    assert [asked.doubt(asked.moment(it)) for it in ("799", "07:13", "52", "7130t")] == [None] * 4
