@@ -52,7 +52,9 @@ def test_an_answer_has_no_limit_of_length(kept):
 
 
 def test_a_refusal_and_a_hint_are_those_of_the_proved_program(kept):
-    assert kept.ran("run", SAYS="scenario: field rounds", STATUS="2") == (2, "", LATER + "scenario: field rounds\n")
+    more = "arterial: with the name of a file, arterial run FILE also shows what was expected and what was found\n"
+    said = (2, "", LATER + "scenario: field rounds\n" + more)
+    assert kept.ran("run", SAYS="scenario: field rounds", STATUS="2") == said
     assert "arterial run --help" in kept.ran("run", "--fly", SAYS="usage: arterial run", STATUS="1")[2]
 
 

@@ -1,6 +1,7 @@
 """What follows the program's line if it refuses a scenario: what was expected, and what was found."""
 
 import json
+import subprocess
 import sys
 import time
 
@@ -67,15 +68,21 @@ def test_nothing_is_added_to_a_line_that_does_not_fit_the_text(command, given, s
     assert refused.explained(command, given, said) == []
 
 
-def test_an_explanation_that_takes_too_long_or_too_much_memory_is_left_out(monkeypatch):
+def test_an_explanation_that_takes_too_long_is_left_out(monkeypatch):
     many = text(inputs=[{"round": 1, "cabinet": 1, "ped": 2}] * 40_000 + [{}])
     monkeypatch.setattr(refused, "SECONDS", 0.02)
     begun = time.monotonic()
     assert refused.explained("run", many, "scenario: field inputs[40000].cabinet") == []
     assert time.monotonic() - begun < 10
-    monkeypatch.setattr(refused, "SECONDS", 20)
-    monkeypatch.setattr(refused, "MEMORY", 1 << 20)
-    assert refused.explained("run", many, "scenario: field inputs[40000].cabinet") == []
+
+
+def test_an_explanation_that_takes_too_much_memory_is_left_out():
+    """In a process of its own, which has no memory left over from before."""
+    words = "import sys; from streettools.launch import refused; refused.MEMORY = 1 << 20; "
+    words += "print(refused.explained('run', sys.stdin.buffer.read(), 'scenario: field inputs[40000].cabinet'))"
+    many = text(inputs=[{"round": 1, "cabinet": 1, "ped": 2}] * 40_000 + [{}])
+    ran = subprocess.run([sys.executable, "-B", "-c", words], input=many, capture_output=True, cwd=TOP / "tools")
+    assert (ran.returncode, ran.stdout) == (0, b"[]\n"), ran.stderr
 
 
 REFUSES = {"SAYS": "scenario: field rounds", "STATUS": "2"}

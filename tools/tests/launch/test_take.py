@@ -111,7 +111,7 @@ def test_a_proof_here_of_another_program_says_so(other, proof):
 
 def test_where_the_program_is_proved_already_nothing_is_taken_over(proved, proof):
     status, written, said = proved.ran("take", str(proof))
-    assert (status, written) == (0, "") and "nothing is taken over" in said
+    assert (status, written) == (0, "") and "so nothing changes" in said
     assert proved.ran("run", "--workers", "2") == (*BUILT, "")
 
 
