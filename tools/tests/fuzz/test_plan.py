@@ -3,8 +3,8 @@ lines, whatever is wrong with them."""
 
 import io
 import json
-import os
 import zipfile
+from collections.abc import Iterator
 
 import pytest
 from hypothesis import given
@@ -17,7 +17,6 @@ from streettools.shared.fault import Fault
 from .conftest import TOP
 from .damage import damaged, damaged_values, tried
 
-os.environ["ARTERIAL_PROGRAM"] = "/nowhere"
 SHEETS = [path.read_bytes() for path in sorted((TOP / "scenarios/sheets").glob("*.toml"))]
 SCENARIOS = [
     path.read_bytes() for path in sorted((TOP / "scenarios").glob("*.json")) if path.stat().st_size < 20_000
@@ -25,6 +24,14 @@ SCENARIOS = [
 NAMES = names.text(reading.street_of(toml_text.read(SHEETS[0].decode())).names).encode()
 WALK = (TOP / "tools/tests/plan/two-cabinets-2.walk").read_bytes()
 WALKS = [b"".join(WALK.splitlines(keepends=True)[at::40]) for at in range(4)]
+
+
+@pytest.fixture(autouse=True, scope="module")
+def without_a_program() -> Iterator[None]:
+    """No program is there, so that a check doesn't start one for each case."""
+    with pytest.MonkeyPatch.context() as here:
+        here.setenv("ARTERIAL_PROGRAM", "/nowhere")
+        yield
 
 
 def carried_on(street: reading.Street) -> None:
