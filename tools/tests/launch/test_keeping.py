@@ -120,6 +120,15 @@ def test_an_interrupt_while_it_is_built_leaves_nothing_behind(tried, pause):
     assert tried.ran("run", "--workers", "2", KEEPS="1") == (*BUILT, FIRST)
 
 
+def test_what_a_killed_call_left_behind_is_removed(tried):
+    """A call that was killed can't remove its folder; the next one that builds does."""
+    folder = tried.program.parent / ".try-killed"
+    folder.mkdir(parents=True)
+    (folder / "program").write_text("half of it\n")
+    assert tried.ran("run", "--workers", "2", KEEPS="1") == (*BUILT, FIRST)
+    assert left(tried) == [".trying", "tried"]
+
+
 def test_a_source_that_does_not_compile_is_reported_once(tried):
     status, written, said = tried.ran("run", LIMIT="source")
     assert (status, written) == (125, "") and "does not compile:\nerror[parse]: src/main.rt:3" in said
