@@ -94,6 +94,9 @@ def write_street(words: argparse.Namespace, street: Street) -> int:
             f"{len(street.bank)} detectors have no place in a scenario: --field writes a field file, for `./arterial "
             "respond`",
         )
+    tables = [tables_of(it) for it in street.scenario["cabinets"]]
+    if any(it.level is Level.ERROR for it in check.broken_rules(street, tables)):
+        say("plan", "the program will refuse this scenario: `./arterial plan check` says why")
     write_scenario(words.output, street.field_file() if words.field else street.scenario)
     where = words.names_out or (words.output and str(names.beside(pathlib.Path(words.output))))
     nothing = names.Names(intersections=[names.Intersection() for _ in street.names.intersections])

@@ -216,3 +216,11 @@ def test_plan_runs_without_a_bar_of_progress(tmp_path):
     path = f"{tmp_path}:{TOP / 'tools'}"
     ran = subprocess.run(command, capture_output=True, timeout=SECONDS, env={**os.environ, "PYTHONPATH": path})
     assert ran.returncode == 0 and ran.stderr == b""
+
+
+def test_a_scenario_that_will_be_refused_says_so():
+    """The split of phase 3 is 18 s, and needs 28.5 s (rule 18)."""
+    ran = plan("scenario", TOP / "scenarios/sheets/mistake.toml")
+    assert ran.returncode == 0 and ran.stdout.startswith(b"{")
+    assert b"plan: the program will refuse this scenario: `./arterial plan check` says why\n" in ran.stderr
+    assert b"will refuse" not in plan("scenario", TOP / "scenarios/sheets/main-street.toml").stderr
