@@ -1,6 +1,7 @@
 # What `arterial` does with its arguments. To be read by a script that has set `checkout` (empty where the program is
 # installed), `program`, and `tools`, the folder that has the package streettools.
 [ -n "$checkout" ] && . "$tools/trust.sh"
+sheet=
 
 say() {
     echo "arterial: $*" >&2
@@ -99,6 +100,10 @@ show_expected() {
 
 # Shows, after the program's line about an invalid scenario, what was expected and what was found.
 show_refusal() {
+    if [ -n "$sheet" ]; then
+        say "arterial plan check $sheet says why"
+        return
+    fi
     if [ -f /dev/stdin ]; then
         (set_python && "$found" -B "$tools/streettools" launch refused "$@")
         return
@@ -143,11 +148,12 @@ esac
 # Puts the scenario of a timing sheet on standard input.
 run_sheet() {
     set_python
+    sheet=$1
     made=$("$found" -B "$tools/streettools" plan scenario "$1") || exit
     say "$1 is a timing sheet: the scenario that it makes is run (arterial plan scenario writes it)"
     case $made in
     *'"inputs":'*) ;;
-    *) say "nobody comes in this run: arterial cosim queues brings vehicles, recall = \"maximum\" in the sheet calls" ;;
+    *) say "no detector calls in this run: `arterial cosim queues` brings vehicles; recall = \"maximum\" calls without them" ;;
     esac
     exec <<END
 $made

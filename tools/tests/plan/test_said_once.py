@@ -48,9 +48,9 @@ def test_run_takes_a_sheet_and_says_so(arterial, short, tmp_path):
     assert of_sheet.returncode == of_scenario.returncode == 0
     assert of_sheet.stdout == of_scenario.stdout and of_sheet.stdout.endswith(b"\nZ 60\n")
     assert b"short.toml is a timing sheet: the scenario that it makes is run" in of_sheet.stderr
-    assert b"nobody comes in this run: arterial cosim queues brings vehicles, recall = " in of_sheet.stderr
+    assert b"no detector calls in this run: `arterial cosim queues` brings vehicles; recall = " in of_sheet.stderr
     short.write_text(short.read_text() + '\n[events]\ninputs = [{round = 2, cabinet = 1, veh = 4, on = true}]\n')
-    assert b"nobody comes" not in arterial("run", short).stderr
+    assert b"no detector calls" not in arterial("run", short).stderr
     (tmp_path / "bad.toml").write_text("[[intersection]]\ncolour = 1\n")
     bad = arterial("run", tmp_path / "bad.toml")
     assert bad.returncode == 2 and bad.stdout == b"" and b"colour: error: no such name" in bad.stderr
@@ -82,3 +82,10 @@ def test_queues_take_a_sheet_and_its_partners_are_idle(program, tmp_path):
     volumes.write_text(f"[[cabinet]]\nnumber = 1\nmovements = [{movements}]\n")
     ran = tool("cosim", "queues", volumes, "--scenario", sheet, "--seconds", 60, "--program", program)
     assert ran.returncode == 0 and b"WBL" in ran.stdout, ran.stderr
+
+
+def test_a_sheet_that_is_refused_says_which_command_tells_why(arterial):
+    """Rule 18, as in docs/PLANS.md."""
+    ran = arterial("run", TOP / "scenarios/sheets/mistake.toml")
+    assert ran.returncode == 2 and b"scenario: cabinet 1 breaks rule 18 at row 2\n" in ran.stderr
+    assert ran.stderr.endswith(b"mistake.toml says why\n") and b"arterial plan check" in ran.stderr
