@@ -153,7 +153,7 @@ run_sheet() {
     say "$1 is a timing sheet: the scenario that it makes is run (arterial plan scenario writes it)"
     case $made in
     *'"inputs":'*) ;;
-    *) say "no detector calls in this run: `arterial cosim queues` brings vehicles; recall = \"maximum\" calls without them" ;;
+    *) say "no detector calls in this run: arterial cosim queues brings vehicles; recall = \"maximum\" calls without them" ;;
     esac
     exec <<END
 $made

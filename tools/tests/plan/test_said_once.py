@@ -48,7 +48,7 @@ def test_run_takes_a_sheet_and_says_so(arterial, short, tmp_path):
     assert of_sheet.returncode == of_scenario.returncode == 0
     assert of_sheet.stdout == of_scenario.stdout and of_sheet.stdout.endswith(b"\nZ 60\n")
     assert b"short.toml is a timing sheet: the scenario that it makes is run" in of_sheet.stderr
-    assert b"no detector calls in this run: `arterial cosim queues` brings vehicles; recall = " in of_sheet.stderr
+    assert b"no detector calls in this run: arterial cosim queues brings vehicles; recall = " in of_sheet.stderr
     short.write_text(short.read_text() + '\n[events]\ninputs = [{round = 2, cabinet = 1, veh = 4, on = true}]\n')
     assert b"no detector calls" not in arterial("run", short).stderr
     (tmp_path / "bad.toml").write_text("[[intersection]]\ncolour = 1\n")
