@@ -1,6 +1,7 @@
 """The command `./arterial look`: does what its words ask for. What takes a while to import is imported where it is
 needed."""
 
+from ..plan.suffixes import is_sheet
 from ..shared.fault import Fault
 from ..shared.status import Status
 from . import called
@@ -42,10 +43,10 @@ def names_of(words, reader):
 def of_sheet(words, reader):
     """Returns the names of a sheet, None if the file isn't one. The start and the travel times are taken from it, too,
     unless the arguments give them."""
+    if not is_sheet(words.names):
+        return None
     from ..plan import taking  # takes a while
 
-    if not taking.is_sheet(words.names):
-        return None
     street = taking.sheet(words.names)
     if words.command != "events" and getattr(words, "start", 0) is None:
         words.start = taking.start_of(street)

@@ -7,8 +7,6 @@ from . import check, sources
 from .reading import Street
 from .sources import Source
 
-SHEETS = (".toml", ".xlsx")
-
 
 class Refused(Fault):
     """A file or words can't be taken, in lines."""
@@ -21,11 +19,6 @@ def taken(path: str, named: str | None = None) -> Source:
     if errors:
         raise Refused("\n".join(f"{path}: {it}" for it in errors))
     return source
-
-
-def is_sheet(path: str) -> bool:
-    """Tells whether a file is a sheet, by its name."""
-    return path.endswith(SHEETS)
 
 
 def sheet(path: str) -> Street:

@@ -11,6 +11,7 @@ import sys
 from dataclasses import dataclass
 from typing import Any
 
+from ..plan.suffixes import is_sheet
 from ..shared import saying
 from ..shared.fault import Fault
 from ..shared.program import NoProgram, answering, ran
@@ -53,9 +54,9 @@ def scenario_of(program: pathlib.Path, text: bytes) -> dict[str, Any]:
 
 def text_of(path: str) -> bytes:
     """Returns the scenario of a file in one line: that which a timing sheet makes, too."""
-    from ..plan import taking  # takes a while
+    if is_sheet(path):
+        from ..plan import taking  # takes a while
 
-    if taking.is_sheet(path):
         return json.dumps(taking.sheet(path).scenario).encode()
     return pathlib.Path(path).read_bytes().replace(b"\n", b" ")
 
@@ -72,10 +73,12 @@ def asked_for(given: argparse.Namespace, program: pathlib.Path) -> tuple[dict[st
 
 def names_of(scenario: pathlib.Path, count: int) -> dict[int, str]:
     """Returns the names of the intersections, where a file with names is beside the scenario."""
-    from ..plan import names, taking  # takes a while
+    from ..plan import names  # takes a while
 
     file = names.beside(scenario)
-    if taking.is_sheet(str(scenario)):
+    if is_sheet(str(scenario)):
+        from ..plan import taking  # takes a while
+
         found = taking.sheet(str(scenario)).names
     elif file.is_file():
         found = names.read(file.read_text(encoding="utf-8"))

@@ -7,6 +7,7 @@ from collections.abc import Callable
 from dataclasses import replace
 from typing import Any
 
+from ...plan.suffixes import is_sheet
 from ...shared.commandline import Parser, add_json, add_output, add_program, number
 from ...shared.fault import Fault
 from ...shared.given import content_of, toml_of
@@ -78,11 +79,11 @@ def asked_of(words: argparse.Namespace, seconds: float) -> Asked:
 def given(words: argparse.Namespace) -> tuple[Volumes, dict[str, Any]]:
     """Returns the volumes and the scenario. Where a sheet is given in its place, the partners that its rings need are
     idle without being listed."""
+    volumes = read_volumes(content_of(words.volumes), words.volumes)
+    if not is_sheet(words.scenario):
+        return volumes, queue_study.read_scenario(content_of(words.scenario), words.scenario)
     from ...plan import taking  # takes a while
 
-    volumes = read_volumes(content_of(words.volumes), words.volumes)
-    if not taking.is_sheet(words.scenario):
-        return volumes, queue_study.read_scenario(content_of(words.scenario), words.scenario)
     street = taking.sheet(words.scenario)
     rows = enumerate(street.names.intersections, 1)
     partners = {(number, phase) for number, it in rows for phase in it.partners}
