@@ -78,8 +78,9 @@ def is_of(value: Any, kind: Any) -> bool:
 
 
 class Given:
-    """A table of a file: `file` names the file in messages, `place` the table, "" for the whole file. What was asked
-    for is known; `end` refuses the rest."""
+    """A table of a file: `file` names the file in messages, `place` the table, "" for the whole file, words that end
+    with a blank where it is named in another way than by its path. What was asked for is known; `end` refuses the
+    rest."""
 
     def __init__(self, table: Any, file: str, place: str = "") -> None:
         self.file, self.place = file, place
@@ -90,7 +91,7 @@ class Given:
 
     def at(self, name: str) -> str:
         """Returns the words for a name of this table in a message."""
-        return f"{self.place}.{name}" if self.place else name
+        return f"{self.place}{'' if self.place.endswith(' ') else '.'}{name}" if self.place else name
 
     def refuse(self, name: str, words: str) -> Fault:
         """Returns the refusal of the value of a name."""
