@@ -7,6 +7,7 @@ import sys
 from dataclasses import replace
 from typing import Any
 
+from ..cosim.queues import said
 from ..shared import files
 from ..shared.progress import bar
 from ..shared.saying import say
@@ -261,7 +262,9 @@ def from_live(words: argparse.Namespace) -> int:
 def to_utdf(words: argparse.Namespace) -> int:
     """Writes a street as UTDF, with its volumes."""
     street = taken(words.file, words.names).street
-    found, notes = utdf_out.written(street, words.pattern, volumes_text.read(words.volumes) if words.volumes else None)
+    volumes = volumes_text.read(words.volumes) if words.volumes else None
+    volumes = said.with_travels(volumes, said.said_in(street.names)) if volumes else None
+    found, notes = utdf_out.written(street, words.pattern, volumes)
     tell(notes)
     write(words.output, found)
     return Status.DONE
