@@ -157,11 +157,11 @@ def rows_of(terms: Terms, plans: Sequence[Named], jobs: Sequence[Job], results: 
     for group in groups:
         base = [totals[terms.against, seed].get(group) for seed in terms.seeds]
         for plan in plans:
-            own = [totals[plan.name, seed].get(group) for seed in terms.seeds]
-            if None in own:
+            own = [it for seed in terms.seeds if (it := totals[plan.name, seed].get(group)) is not None]
+            if len(own) < len(terms.seeds):
                 continue
             is_base = plan.name == terms.against or None in base
-            pairs = list(zip(own, base))
+            pairs = [(one, other) for one, other in zip(own, base) if other is not None]
             rows.append(
                 Row(
                     plan.name,
