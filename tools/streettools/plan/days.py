@@ -72,7 +72,7 @@ def weekdays(said: object) -> tuple[int, ...]:
         return tuple(sorted((first + at) % 7 for at in range((last - first) % 7 + 1)))
     words = [said] if isinstance(said, str) else said
     if not isinstance(words, list):
-        raise Wrong(f'{said!r} is no list of days, as ["saturday", "sunday"], or "monday to friday"')
+        raise Wrong(f'{said!r} is not a list of days, as ["saturday", "sunday"], or "monday to friday"')
     found_days = [weekday(it) for it in words]
     if len(set(found_days)) < len(found_days):
         raise Wrong("a day is said twice")
@@ -82,7 +82,7 @@ def weekdays(said: object) -> tuple[int, ...]:
 def months(said: object) -> tuple[int, ...]:
     """Returns a list of months."""
     if not isinstance(said, list) or not said:
-        raise Wrong(f"{said!r} is no list of months, as [9, 10, 11]")
+        raise Wrong(f"{said!r} is not a list of months, as [9, 10, 11]")
     return tuple(sorted({number(1, 12)(it) for it in said}))
 
 
@@ -100,13 +100,13 @@ def date(said: object) -> str:
             return datetime.date.fromisoformat(said).isoformat()
     except ValueError:
         pass
-    raise Wrong(f'{said!r} is no date, as 2026-12-24, or "12-24" for every year')
+    raise Wrong(f'{said!r} is not a date, as 2026-12-24, or "12-24" for every year')
 
 
 def dates(said: object) -> tuple[str, ...]:
     """Returns a list of dates."""
     if not isinstance(said, list):
-        raise Wrong(f"{said!r} is no list of dates, as [2026-12-24]")
+        raise Wrong(f"{said!r} is not a list of dates, as [2026-12-24]")
     found = [date(it) for it in said]
     if len(set(found)) < len(found):
         raise Wrong("a date is said twice")
@@ -182,4 +182,4 @@ def day_of(text: str) -> datetime.date:
     try:
         return datetime.date.fromisoformat(text)
     except ValueError:
-        raise Fault(f"{text!r} is no date, as 2026-12-24") from None
+        raise Fault(f"{text!r} is not a date, as 2026-12-24") from None

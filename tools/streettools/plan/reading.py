@@ -127,7 +127,7 @@ def read_detectors(it: Given, cabinet: int, ticks: int, found: names.Intersectio
 def read_units(said: object) -> str:
     """Returns the units of speeds and lengths."""
     if said not in names.UNITS:
-        raise Wrong(f'{said!r} is no system of units: write "us" for mph and feet, "metric" for km/h and metres')
+        raise Wrong(f'{said!r} is not a system of units: write "us" for mph and feet, "metric" for km/h and metres')
     return str(said)
 
 

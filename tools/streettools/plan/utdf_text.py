@@ -86,14 +86,14 @@ class Utdf:
         if NUMBER.fullmatch(entry) and math.isfinite(float(entry)):
             return float(entry)
         hint = ": a decimal point, not a comma" if re.fullmatch(r"[0-9]+,[0-9]+", entry) else ""
-        self.fault(entry, f"{str(entry)[:40]!r} is no number{hint}")
+        self.fault(entry, f"{str(entry)[:40]!r} is not a number{hint}")
         return None
 
     def whole(self, entry: Entry | None) -> int | None:
         """Returns the whole number that a field has, None where it is blank."""
         found = self.number(entry)
         if found is not None and entry and not found.is_integer():
-            self.fault(entry, f"{str(entry)[:40]!r} is no whole number")
+            self.fault(entry, f"{str(entry)[:40]!r} is not a whole number")
             return None
         return None if found is None else int(found)
 
