@@ -54,7 +54,7 @@ def text_of(comparison: Comparison, rows: list[Row]) -> str:
         f"means with intervals of 95 %; more: than under {comparison.against}, paired by seed",
     ]
     for group in dict.fromkeys(it.group for it in rows):
-        cells = [HEADS]
+        cells: list[tuple[str, ...]] = [HEADS]
         for it in (row for row in rows if row.group == group):
             means = (it.delay, it.stops, it.more_delay, it.more_stops)
             cells.append((it.plan, f"{it.trips:.0f}", *map(shown, means)))

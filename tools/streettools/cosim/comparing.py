@@ -226,19 +226,25 @@ class Row:
     more_stops: Mean | None
 
 
+def whole(found: list[Total | None]) -> list[Total] | None:
+    """Returns a list without gaps; None if it has one."""
+    kept = [it for it in found if it is not None]
+    return kept if len(kept) == len(found) else None
+
+
 def rows_of(comparison: Comparison, jobs: list[Job], results: list[Result]) -> list[Row]:
     """Returns the table of a comparison: plans paired by seed, group by group."""
     totals = {(job.plan.name, job.seed): result.totals for job, result in zip(jobs, results)}
     groups = list(dict.fromkeys(group for result in results for group in result.totals))
     rows = []
     for group in groups:
-        base = [totals[comparison.against, seed].get(group) for seed in comparison.seeds]
+        base = whole([totals[comparison.against, seed].get(group) for seed in comparison.seeds])
         for plan in comparison.plans:
-            own = [totals[plan.name, seed].get(group) for seed in comparison.seeds]
-            if None in own:
+            own = whole([totals[plan.name, seed].get(group) for seed in comparison.seeds])
+            if own is None:
                 continue
-            is_base = plan.name == comparison.against or None in base
-            pairs = list(zip(own, base))
+            is_base = plan.name == comparison.against or base is None
+            pairs = list(zip(own, base or ()))
             rows.append(
                 Row(
                     plan.name,

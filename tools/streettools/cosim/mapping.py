@@ -43,6 +43,7 @@ class MappedMovement:
         """Returns the phases under which the movement may have way, each with whether it gives way then."""
         if self.overlap:
             return tuple((phase, self.yields) for phase in self.overlap.parents)
+        assert self.phase is not None, "a movement without an overlap has a phase"
         own = ((self.phase, self.yields),)
         return own if self.permissive is None else (*own, (self.permissive, True))
 

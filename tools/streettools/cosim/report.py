@@ -88,7 +88,7 @@ def collect(study: Study, greens: Greens | None = None) -> Value:
     moved, walked = [], []
     for it in study.movements:
         count = found[it.cabinet, it.name]
-        named = {"cabinet": it.cabinet, "movement": it.name, "phase": it.phase}
+        named: Value = {"cabinet": it.cabinet, "movement": it.name, "phase": it.phase}
         if is_of_persons(it):
             walked.append({**named, "persons": count.vehicles, "delay": share(count.delay, count.vehicles, 1)})
         else:

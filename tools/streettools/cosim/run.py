@@ -70,7 +70,9 @@ def run(given: Given, program: pathlib.Path, out: pathlib.Path, progress: Callab
     told before SUMO starts; a run that ends before its time keeps what it has recorded."""
     sumo = drive.module()
     session = Session(program, given.for_session())
-    loop, fault, types = None, None, {}
+    loop: Loop | None = None
+    fault: Fault | None = None
+    types: dict[str, Any] = {}
     try:
         check(given.street, given.network, given.scenario)
         areas, added = built_areas(given.street, given.network, out)
@@ -85,12 +87,13 @@ def run(given: Given, program: pathlib.Path, out: pathlib.Path, progress: Callab
         except (Fault, KeyboardInterrupt) as raised:
             if loop is None or not loop.times.steps:
                 raise
-            is_fault = isinstance(raised, Fault)
-            fault = raised if is_fault else Fault("interrupted; what was recorded is kept", Status.INTERRUPTED)
+            stopped = Fault("interrupted; what was recorded is kept", Status.INTERRUPTED)
+            fault = raised if isinstance(raised, Fault) else stopped
         with contextlib.suppress(Fault):  # the record has what came before
             session.close()
     finally:
         session.end()
+    assert loop is not None
     return done(given, loop, session, types, out, fault)
 
 
@@ -146,7 +149,10 @@ def persons_of(crossed: list[Crossed]) -> list[Trip]:
     found = []
     for person, own in rows.items():
         passages = tuple(
-            Passage(*it[1:6], round(it.released - it.arrived, 2), it.stood, it.on_walk)
+            Passage(
+                it.cabinet, it.movement, it.phase, it.arrived, it.released, round(it.released - it.arrived, 2),
+                it.stood, it.on_walk,
+            )  # fmt: skip
             for it in own
             if it.released is not None
         )

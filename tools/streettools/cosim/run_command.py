@@ -2,6 +2,7 @@
 
 import argparse
 import pathlib
+from typing import Any
 
 from ..shared.commandline import Parser, add_output, add_program, number
 from ..shared.fault import Fault
@@ -40,7 +41,7 @@ def parser() -> argparse.ArgumentParser:
         description="Runs SUMO under the cabinets of a scenario: its detectors, persons, buses and trains call them.",
         epilog=EXAMPLES,
     )
-    path = {"type": pathlib.Path, "required": True}
+    path: dict[str, Any] = {"type": pathlib.Path, "required": True}
     words.add_argument("--sumo", **path, metavar="CONFIG", help="SUMO's configuration (*.sumocfg)")
     words.add_argument("--map", **path, metavar="MAP", help="the map: which link has which phase")
     words.add_argument("--scenario", **path, metavar="FILE", help="the cabinets")
