@@ -101,7 +101,7 @@ class Loop:
         names = [it.id for it in street.signals]
         self.signals = Signals(street, network)
         self.halts = Halts(network, names, sumo, (it.lane for it in areas.places.values()))
-        self.watch = Watch(network, names, yielding_in(street, given.scenario), sumo)
+        self.watch = Watch(network, names, yielding_in(street, network, given.scenario), sumo)
         self.detectors = Detectors(street, areas, sumo, given.step)
         self.buttons = Buttons(street, network, sumo)
         self.priority = Priority(street, network, given.scenario.get("community", "public"))

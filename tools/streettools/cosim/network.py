@@ -21,6 +21,8 @@ from ..shared.status import Status
 OF_TRAINS = ("rail_crossing", "rail_signal")
 """Kinds of junctions whose signals SUMO switches by the trains themselves; no cabinet has them."""
 STRAIGHT, LEFT, RIGHT, TURN, CROSSING = "s", "l", "r", "t", "c"
+OPPOSITE = 120
+"""Approaches whose headings differ by at least so many degrees are opposite."""
 TURNS = {"s": STRAIGHT, "l": LEFT, "L": LEFT, "r": RIGHT, "R": RIGHT, "t": TURN}
 
 
@@ -115,6 +117,15 @@ class Network:
     def gives_way(self, one: Link, other: Link) -> bool:
         """Tells whether a link with a green that yields lets another go first."""
         return (one.place, other.place) in self.yields[one.junction]
+
+
+    def meets(self, one: Link, other: Link) -> bool:
+        """Tells whether a turn gives way to another link by the rules of the road while both are green: to a crossing,
+        and to who comes from opposite (within 60 degrees)."""
+        if CROSSING in (one.turn, other.turn):
+            return one.turn != CROSSING
+        turned = self.edges[one.approach].heading - self.edges[other.approach].heading
+        return abs((turned + 180) % 360 - 180) >= OPPOSITE
 
 
 def edge_of(lane: str) -> str:
