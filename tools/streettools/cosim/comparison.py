@@ -149,19 +149,25 @@ class Row:
     more_stops: Mean | None
 
 
+def whole(found: list[Total | None]) -> list[Total] | None:
+    """Returns a list without gaps; None if it has one."""
+    kept = [it for it in found if it is not None]
+    return kept if len(kept) == len(found) else None
+
+
 def rows_of(terms: Terms, plans: Sequence[Named], jobs: Sequence[Job], results: list[Result]) -> list[Row]:
     """Returns the table of a comparison: plans paired by seed, group by group."""
     totals = {(job.plan.name, job.seed): result.totals for job, result in zip(jobs, results)}
     groups = list(dict.fromkeys(group for result in results for group in result.totals))
     rows = []
     for group in groups:
-        base = [totals[terms.against, seed].get(group) for seed in terms.seeds]
+        base = whole([totals[terms.against, seed].get(group) for seed in terms.seeds])
         for plan in plans:
-            own = [totals[plan.name, seed].get(group) for seed in terms.seeds]
-            if None in own:
+            own = whole([totals[plan.name, seed].get(group) for seed in terms.seeds])
+            if own is None:
                 continue
-            is_base = plan.name == terms.against or None in base
-            pairs = list(zip(own, base))
+            is_base = plan.name == terms.against or base is None
+            pairs = list(zip(own, base or ()))
             rows.append(
                 Row(
                     plan.name,
