@@ -55,5 +55,5 @@ def fitted(volumes: Volumes, street: Street) -> Volumes:
     """Returns the volumes with the placeholder phases that have no traffic as idle: they needn't be listed."""
     rows = enumerate(street.names.intersections if street.names else (), 1)
     partners = {(number, phase) for number, it in rows for phase in it.partners}
-    busy = {(it.cabinet, it.phase) for it in (*volumes.flows, *volumes.crossings)}
+    busy = {(it.cabinet, it.phase) for it in volumes.flows} | {(it.cabinet, it.phase) for it in volumes.crossings}
     return replace(volumes, idle=volumes.idle | (partners - busy))
