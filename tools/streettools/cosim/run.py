@@ -8,6 +8,7 @@ from dataclasses import dataclass
 from typing import Any
 
 from ..shared.fault import Fault
+from ..shared.given import content_of
 from ..shared.status import Status
 from . import drive, report
 from .checks import check
@@ -38,9 +39,7 @@ class Done:
 def read_scenario(path: pathlib.Path) -> dict[str, Any]:
     """Reads a scenario; what is in it is for the program to judge."""
     try:
-        found = json.loads(path.read_bytes())
-    except OSError as fault:
-        raise Fault(f"{path}: {fault.strerror}", Status.FILE) from None
+        found = json.loads(content_of(path))
     except (ValueError, RecursionError):
         raise Fault(f"{path}: scenario: not JSON") from None
     if not isinstance(found, dict) or not all(isinstance(found.get(name), int) for name in ("ticks", "rounds")):
