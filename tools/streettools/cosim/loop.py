@@ -8,7 +8,7 @@ import math
 import pathlib
 import time
 from collections.abc import Callable, Iterator
-from dataclasses import dataclass
+from dataclasses import dataclass, field
 from typing import Any
 
 from ..shared.fault import Fault
@@ -46,6 +46,8 @@ class Given:
     seed: int | None = None
     priority: bool = True
     warm: float = 0.0
+    names: dict[int, str] = field(default_factory=dict)
+    """What cabinets are called, as far as they have names."""
 
     def ticks(self) -> int:
         """Returns the ticks of a step."""

@@ -7,6 +7,7 @@ from collections.abc import Callable
 from dataclasses import dataclass
 from typing import Any
 
+from ..plan.suffixes import is_sheet
 from ..shared.fault import Fault
 from ..shared.given import content_of
 from ..shared.status import Status
@@ -37,7 +38,11 @@ class Done:
 
 
 def read_scenario(path: pathlib.Path) -> dict[str, Any]:
-    """Reads a scenario; what is in it is for the program to judge."""
+    """Reads a scenario, or the one of a timing sheet; what is in it is for the program to judge."""
+    if is_sheet(str(path)):
+        from ..plan import taking  # takes a while
+
+        return taking.sheet(str(path)).scenario
     try:
         found = json.loads(content_of(path))
     except (ValueError, RecursionError):
@@ -118,7 +123,7 @@ def done(
         title=given.config.path.stem,
     )
     save(study, out / STUDY)
-    value = report.collect(study)
+    value = report.collect(study, more=report.More(given.names))
     (out / f"{REPORT}.json").write_text(report.json_text(value), encoding="utf-8")
     (out / f"{REPORT}.txt").write_text(report.text(value), encoding="utf-8")
     return Done(study, loop.times, fault, loop.priority.refusals)

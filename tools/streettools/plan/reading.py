@@ -8,6 +8,7 @@ from typing import Any
 
 from ..shared.given import Defect, Given, Unreadable, Wrong
 from . import days, intersection, names, readers
+from .event_times import Timed
 from .fields import is_number, one_line
 from .findings import Finding, warn
 
@@ -151,6 +152,14 @@ def plain(said: object) -> Any:
     return said
 
 
+def kept_list(said: object) -> list:
+    """Returns a list, whose times are still times."""
+    if not isinstance(said, list):
+        raise Wrong("has to be a list")
+    plain([{**it, "at": 0} if isinstance(it, dict) else it for it in said])
+    return said
+
+
 def listed(said: object) -> list:
     """Returns a list that JSON can have."""
     if not isinstance(said, list):
@@ -164,15 +173,16 @@ def respond_of(top: Given) -> dict[str, Any] | None:
     return top.read("respond", plain)
 
 
-def read_events(top: Given, scenario: dict[str, Any]) -> list | None:
-    """Takes up what comes in round by round, which a sheet has as a scenario has it; returns the pulses of
-    detectors."""
+def read_events(top: Given, scenario: dict[str, Any], names: list[str]) -> list | None:
+    """Takes up what comes in round by round, which a sheet has as a scenario has it, or with times of day and names of
+    intersections; returns the pulses of detectors."""
     it = top.below("events")
     it.allow((*LISTS, "pulses"))
+    timed = Timed(scenario, names)
     for name in LISTS:
-        said = it.read(name, listed)
+        said = it.read(name, kept_list)
         if said is not None:
-            scenario[name] = said
+            scenario[name] = plain(timed.items(it, name, said))
     return it.read("pulses", listed)
 
 
@@ -214,7 +224,7 @@ def read_sheet(sheet: dict[str, Any]) -> tuple[Street, list[Defect]]:
         scenario["master"] = master
     street.numbers = {place - 1 for place, it in top.tables("schedule") if is_number(it.table.get("at"))}
     read_days(top, street, schedule)
-    street.pulses = read_events(top, scenario)
+    street.pulses = read_events(top, scenario, [it.name for it in found.intersections])
     street.respond = respond_of(top)
     return street, top.faults or []
 

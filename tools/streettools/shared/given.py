@@ -109,8 +109,9 @@ def is_place(word: str, most: int) -> bool:
 
 
 class Given:
-    """A table of a file. `file` names the file in messages, `place` the table, "" for the whole file. Names that were
-    asked for are known; `end` refuses the others.
+    """A table of a file. `file` names the file in messages, `place` the table: "" for the whole file; words that end
+    with a blank for a table that isn't named by its path. Names that were asked for are known; `end` refuses the
+    others.
 
     Without `faults` the first fault is raised, with its path, as `vary[0].name`. With `faults` each one is added there,
     with its place in words, as `intersection 2, phase 4`, and reading goes on."""
@@ -124,6 +125,8 @@ class Given:
 
     def at(self, name: str) -> str:
         """Returns the place of a name of this table in a message."""
+        if self.place.endswith(" "):
+            return self.place + name
         return ("." if self.faults is None else ", ").join(filter(None, (self.place, name)))
 
     def inner(self, table: Any, place: str) -> "Given":

@@ -7,7 +7,7 @@ from matplotlib.collections import LineCollection
 from matplotlib.lines import Line2D
 from matplotlib.patches import Patch
 
-from ...look import called, coordination, pictures
+from ...look import coordination, pictures
 from ...shared.fault import Fault
 from ...shared.trace_reader import TraceReader
 from .seen import View
@@ -42,7 +42,7 @@ def draw_paths(axes: Any, study: Study, heights: dict[int, float], view: View) -
 
 def corners_of(study: Study, cabinets: list[int], travel: list[int], view: View) -> list[coordination.Corner]:
     """Returns the coordinated greens of the cabinets, by the trace."""
-    look = coordination.View(round(10 * view.start), round(10 * view.end), sum(travel), None, called.Called())
+    look = coordination.View(round(10 * view.start), round(10 * view.end), sum(travel), None, view.names)
     with open(study.trace, "rb") as stream:
         reader = TraceReader(stream)
         wrong = next((it for it in cabinets if not 1 <= it <= reader.cabinets), None)

@@ -1,9 +1,11 @@
 """What the pictures of a street with traffic share: the colours of a phase over time, and which movements are drawn."""
 
+import json
 import pathlib
 from typing import Any, NamedTuple
 
 from ...look import pictures
+from ...look.called import Called
 from ...shared.fault import Fault
 from ..movements import is_of_persons
 from ..records import Movement, Study
@@ -20,12 +22,24 @@ class Turn(NamedTuple):
 
 
 class View(NamedTuple):
-    """What is looked at: the first and the last second, and the time of day at which the run began, None where the
-    time since then is shown."""
+    """What is looked at: the first and the last second, the time of day at which the run began, None where the time
+    since then is shown, and what things are called."""
 
     start: float
     end: float
     began: float | None = None
+    names: Called = Called()
+
+    def cabinet(self, number: int) -> str:
+        """Returns a cabinet in the middle of a title."""
+        return self.names.cabinet(number) if self.names.street(number) else f"cabinet {number}"
+
+
+def scenario_of(trace: pathlib.Path) -> dict[str, Any]:
+    """Returns the scenario of a trace, by its first line."""
+    with open(trace, "rb") as lines:
+        scenario: dict[str, Any] = json.loads(lines.readline()[2:])
+    return scenario
 
 
 def turns(trace: pathlib.Path, cabinet: int, phases: tuple[int, ...]) -> list[Turn]:
