@@ -101,7 +101,7 @@ def changed(one: str, other: str, count: int = 1) -> str:
         ),
         (
             changed('to = "2 EB"', 'to = "next"'),
-            'volumes: cabinet[0].movements[0].to has to be a cabinet and an approach, as "2 EB"',
+            'volumes: cabinet 1, movement EBT: to has to be a cabinet and an approach, as "2 EB"',
         ),
         (
             changed("travel = 20, ", ""),
