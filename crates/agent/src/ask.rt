@@ -1,5 +1,5 @@
-//! What a frame asks: a Get, a GetNext, or a Set that gives orders or goes on with a download. A Set with a fault is answered
-//! with the first one.
+//! What a frame asks: a Get, a GetNext, or a Set that gives orders or continues with a download. A Set with a fault is
+//! answered with the first one.
 
 ghost use Rattle.std.specs.Prelude.{◌≡◌, ◌↔◌, [], IsTrue, IfSome, IfNone, OnSome, Some};
 ghost use Rattle.arrayvec.specs.ArrayVec.{array_vec_len};

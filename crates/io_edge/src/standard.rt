@@ -1,5 +1,6 @@
-//! Adapters over readers and writers of std. Where the reader tells what is left, the source tells the same; where the writer tells
-//! what was written, the sink does. Standard input and output tell nothing: what stands outside the program is trusted.
+//! Adapters over readers and writers of std. Where the reader tells what is left, the source tells the same; where the
+//! writer tells what was written, the sink does. Standard input and output tell nothing: what is outside the program is
+//! trusted.
 
 ghost use Rattle.std.specs.Prelude.{◌≡◌, ◌<◌, ◌≤◌, None, take, length, IfOk, OnOk, OnErr, true};
 ghost use Rattle.std.proofs.Common.{ap};

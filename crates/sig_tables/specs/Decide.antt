@@ -28,7 +28,7 @@ opened t = record {
 abbrev pub ticks_in : Past → ℕ
 ticks_in past = (last_moment past.tables past.moments).number
 
--- what has come with one moment more: nothing has been told since
+-- what has come with one moment more: nothing has been reported since
 abbrev pub with_moment : Past → Moment → Past
 with_moment past m = record past { commanded = None; clock_set = None; heard = []; moments = m ∷ past.moments }
 
@@ -45,7 +45,7 @@ with_event (Ask request) past = record past { asked = Given (ticks_in past) requ
 with_event (Cancel number) past = record past { asked = Cancelled (ticks_in past) number ∷ past.asked }
 with_event (SetDrift gain lose) past = record past { gain = gain; lose = lose }
 
--- what a list of events has come to, from these opening tables
+-- what a list of events has reached, from these opening tables
 abbrev pub past_of : Tables → List Event → Past
 past_of opening [] = opened opening
 past_of opening (e ∷ events) = with_event e (past_of opening events)
@@ -63,7 +63,7 @@ opening_commands command clock = SetPattern command ∷ SetClock clock ∷ []
 abbrev pub since_opening : History → List Event
 since_opening h = h.events ++ opening_commands h.command h.clock
 
--- what a history has come to
+-- what a history has reached
 abbrev pub past_at : History → Past
 past_at h = past_of h.tables (since_opening h)
 

@@ -1,4 +1,4 @@
--- The phases that a mode brings to Green, and the lesser times of those that stand in a preempt's way.
+-- The phases that a mode brings to Green, and the smaller times of those that are in a preempt's way.
 use Rattle.std.specs.Prelude.{ℕ, zero, suc, ◌*◌, ◌&&◌, max, min, nat_le, Bool, if◌then◌else◌, List, []}
 use Rattle.sig_types.specs.declared.frame.Colour.TheVariants.{Green}
 use Rattle.sig_types.specs.declared.frame.Ped.TheVariants.{Dont}
@@ -39,7 +39,7 @@ lesser_times t (suc i) = AtMost (10 * (preempt_of t (suc i)).minimum_walk) (10 *
 abbrev pub lesser_in : Tables → Mode → ℕ → Lesser
 lesser_in t mode p = if is_in (goal_in t mode) p then InFull else lesser_times t (stage_of mode)
 
--- the least green that preempt i leaves a phase of so much; all of it where no preempt is served
+-- the minimum green that preempt i leaves a phase of that much; all of it where no preempt is served
 abbrev pub lesser_green : Tables → ℕ → ℕ → ℕ
 lesser_green t zero time = time
 lesser_green t (suc i) time = max 1 (min time (10 * (preempt_of t (suc i)).minimum_green))
