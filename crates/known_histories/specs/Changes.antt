@@ -11,7 +11,7 @@ use Rattle.sig_tables.specs.Decide.{frames}
 use Rattle.sig_tables.specs.Standard.{max8}
 use Rattle.sig_types.specs.declared.frame.Field.TheVariants.{Veh}
 
--- so many ticks
+-- that many ticks
 abbrev pub ticks : ℕ → List Event
 ticks zero = []
 ticks (suc n) = Tick ∷ ticks n

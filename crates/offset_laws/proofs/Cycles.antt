@@ -168,7 +168,7 @@ turns-now k most spare m drifts t past f begins a some few =
       few = few;
     })
 
--- with no drift in so many ticks
+-- with no drift in that many ticks
 pub quiet-run : (m : ℕ) (k : Correction) (most spare : ℕ) (drifts : ℕ → Drift) (t c : ℕ) (before : List ℕ) (e : ℕ) → HasRoom k → KeepsLimits k (c ∷ before)
     → to_zero k (c ∷ before) ≤ m → ((i : ℕ) → i < m → drifts i ≡ Even) → At k.cycle t c e → 1 ≤ e → Goes k most spare c before e
     → Meeting k m drifts t (c ∷ before) ⊎ Turning k most spare m drifts t (c ∷ before)

@@ -31,7 +31,7 @@ frame_told has_line past =
     if has_line (last_frame past.moments) (next_moment past).frame
     then Shows (length (frames_in past.moments)) (shown_by (next_moment past).frame) ∷ [] else []
 
--- what is to be told of these events, by a rule for which frames have a line
+-- what is to be reported of these events, by a rule for which frames have a line
 abbrev pub told_of : (Frame → Frame → Bool) → Tables → List Event → List CabinetTold
 told_of has_line opening [] = Shows 0 (shown_by first_frame) ∷ []
 told_of has_line opening (Tick ∷ events) = told_of has_line opening events ++ frame_told has_line (past_of opening events)
@@ -39,6 +39,6 @@ told_of has_line opening (Install t ∷ events) =
     told_of has_line opening events ++ Loads ((past_of opening events).version + 1) ∷ []
 told_of has_line opening (_ ∷ events) = told_of has_line opening events
 
--- what is to be told of a history
+-- what is to be reported of a history
 abbrev pub history_told : (Frame → Frame → Bool) → History → List CabinetTold
 history_told has_line h = told_of has_line h.tables (since_opening h)

@@ -79,7 +79,8 @@ makes_way_for t (Track i) p = if is_in (entry_set t i) p then None else Some (pr
 makes_way_for t (Dwell i) p = if is_in (dwell_set t i) p then None else Some (preempt_of t i)
 makes_way_for t mode p = None
 
--- of the time of a green, a walk or a pedestrian clearance so much is due at least: all of it, or what the preempt leaves of it
+-- of the time of a green, a walk or a pedestrian clearance that much is expected at least: all of it, or what the
+-- preempt leaves of it
 abbrev pub green_due : Option Preempt → ℕ → ℕ
 green_due None time = time
 green_due (Some preempt) time = max 1 (min time (10 * preempt.minimum_green))
@@ -99,7 +100,7 @@ next_colour t p Yellow = if red_clear_time t p == 0 then Red else Clear
 next_colour t p Clear = Red
 next_colour t p Red = Green
 
--- the signal that follows another in this mode: pedestrian clearance is left out where none of it is due
+-- the signal that follows another in this mode: pedestrian clearance is left out where none of it is expected
 abbrev pub next_signal : Tables → Mode → ℕ → Ped → Ped
 next_signal t mode p Dont = Walk
 next_signal t mode p Walk = if clearance_due (makes_way_for t mode p) (pedestrian_clear_time t p) == 0 then Dont else Flash
@@ -123,9 +124,9 @@ pub record Interval (holds : ℕ → Type 0) (first end : ℕ) : Type 0 where
 abbrev pub way_at : Intersection → ℕ → ℕ → Option Preempt
 way_at s p tick = makes_way_for (in_force s tick) (mode_at s tick) p
 
--- each Yellow and each Clear of phase p that has ended lasted exactly its time, by the tables at its first tick; each Green
--- lasted at least what was due of its least green as it ended; each Walk and each Flash at most its time, and at least what
--- was due of it as it ended: so exactly its time where p does not make way for a preempt
+-- each Yellow and each Clear of phase p that has ended lasted exactly its time, by the tables at its first tick; each
+-- Green lasted at least what was expected of its minimum green as it ended; each Walk and each Flash at most its time,
+-- and at least what was expected of it as it ended: so exactly its time where p does not make way for a preempt
 pub record Lasts (s : Intersection) (p first end : ℕ) : Type 0 where
   pub yellow : Interval (λ tick. colour_at s p tick ≡ Yellow) first end → end ≡ first + yellow_time (in_force s first) p
   pub clear : Interval (λ tick. colour_at s p tick ≡ Clear) first end → end ≡ first + red_clear_time (in_force s first) p

@@ -14,7 +14,8 @@ shown_by f = record { colours = f.veh; signals = f.ped; mode = f.mode; version =
 abbrev pub TellsChanges : (Frame → Frame → Bool) → Type 0
 TellsChanges has_line = (last next : Frame) → has_line last next ≡ false → shown_by next ≡ shown_by last
 
--- what is told of these frames, given the newest first, by such a rule: the oldest is that of tick 0, and has a line
+-- what is reported of these frames, given the newest first, by such a rule: the oldest is that of tick 0, and has a
+-- line
 abbrev pub written : (Frame → Frame → Bool) → List Frame → List (ℕ × Indications)
 written has_line [] = []
 written has_line (f ∷ []) = (0, shown_by f) ∷ []

@@ -22,10 +22,11 @@ ghost use Rattle.safety_laws.specs.Rows.{slow_yellow, newest_yellow, preempted, 
 
 pub use safe_streets::admitted_streets_are_safe;
 
-/// The street of a trace is safe, in every mode: whatever the inputs, commands, preempts, priority requests and downloads of a
-/// cabinet's history, whichever rule chooses the frames that have a line, as long as one without a line shows what the one before it
-/// showed, and whatever other lines stand between. The tables opened with and those of each download are sound; each download keeps the
-/// layout of the tables before it, but for one that comes while nothing is on.
+/// The street of a trace is safe, in every mode: whatever the inputs, commands, preempts, priority requests and
+/// downloads of a cabinet's history, whichever rule chooses the frames that have a line, as long as one without a line
+/// shows what the one before it showed, and whatever other lines are between. The tables opened with and those of each
+/// download are sound; each download keeps the layout of the tables before it, but for one that comes while nothing is
+/// on.
 pub fn trace_is_safe()
     ensures { (h : History) (has_line : Frame → Frame → Bool) (cab : ℕ) (lines : List Line)
         → Lawful h.tables (since_opening h)
@@ -43,9 +44,10 @@ pub fn undisturbed_is_whole()
         → Whole cab lines }
 {}
 
-/// What the definition refuses on the table max8: a conflict of colours or of walks; a disabled phase that is lit; a yellow or a red
-/// clearance left out, cut short or drawn out; a green cut short; a walk or a pedestrian clearance cut short or drawn out, a pedestrian
-/// clearance left out; and walk beside red. A yellow keeps the time of its first tick, whatever tables come while it lasts.
+/// What the definition refuses on the table max8: a conflict of colours or of walks; a disabled phase that is lit; a
+/// yellow or a red clearance left out, cut short or lengthened; a green cut short; a walk or a pedestrian clearance cut
+/// short or lengthened, a pedestrian clearance left out; and walk beside red. A yellow keeps the time of its first
+/// tick, whatever tables come while it lasts.
 pub fn unsafe_traces_are_refused()
     ensures conflict { IsRefused conflict }
     ensures two_walks { IsRefused two_walks }

@@ -13,11 +13,11 @@ ghost use Rattle.safety_laws.specs.Whole.{Whole};
 ghost use Rattle.safety_laws.specs.Written.{TellsChanges, tables_of};
 ghost use Rattle.safety_laws.specs.CabinetTold.{told_in, history_told};
 
-/// The tables opened with are consistent, and each download broke no rule beside the tables that it replaced (a cabinet that flashes
-/// may take tables of another layout): then what the lines of a cabinet show is safe at every tick, in every mode, by the tables of
-/// each version, and its versions are whole. This holds whatever the inputs, commands, clocks, preempts and priority requests are,
-/// whichever rule chooses the frames that have a line, as long as one without a line shows what the one before it showed, and
-/// whatever lines of other cabinets or other kinds stand between.
+/// The tables opened with are consistent, and each download broke no rule beside the tables that it replaced (a cabinet
+/// that flashes may take tables of another layout): then what the lines of a cabinet show is safe at every tick, in
+/// every mode, by the tables of each version, and its versions are whole. This holds whatever the inputs, commands,
+/// clocks, preempts and priority requests are, whichever rule chooses the frames that have a line, as long as one
+/// without a line shows what the one before it showed, and whatever lines of other cabinets or other kinds are between.
 pub fn admitted_streets_are_safe()
     ensures safe { (h : History) (has_line : Frame → Frame → Bool) (cab : ℕ) (lines : List Line)
         → Admitted h.tables (since_opening h)
