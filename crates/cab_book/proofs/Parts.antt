@@ -86,7 +86,7 @@ read-ticks (q ∷ journal) = elim (read-is q) [
   ]
 ]
 
--- passes 5 to 7 stand in none
+-- passes 5 to 7 are in none
 pub read-none : (p : ℕ) → 5 ≤ p → p ≤ 7 → (journal : List ℕ) → times p (read_journal journal) ≡ 0
 read-none p from to [] = refl
 read-none p from to (q ∷ journal) = elim (read-is q) [

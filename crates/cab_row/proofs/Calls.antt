@@ -52,7 +52,7 @@ own_finished opening passes n i many j v k = record {
   only = λ p c ne. omega (arith, k.only p c ne, count_done p c i many (holding v i j), total-zeros (is_pair p c) many (v.number, i) (ap (λ m. is_pair p c (m, i)) k.number_is ∙ is_pair_none p n c i ne));
 }
 
--- so many more are done at the cabinet i
+-- that many more are done at the cabinet i
 pub done_after : (done : List ℕ) (n i many x : ℕ) (v w : View) → w.done ≡ v.done ++ replicate many (n, i) → length done ≡ 64 → x ≡ get_or done i 0 + many → i < 64
     → ((c : ℕ) → c < 64 → get_or done c 0 ≡ count n c v)
     → (c : ℕ) → c < 64 → get_or (set done i x) c 0 ≡ count n c w

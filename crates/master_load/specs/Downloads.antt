@@ -27,7 +27,7 @@ cells_in (Some l) = l.cells
 abbrev pub cells_of : List LoadContent → ℕ → List (Cell × Content)
 cells_of loads number = cells_in (load_at loads number)
 
--- so many cells in parts of 24, of which the last may have fewer
+-- that many cells in parts of 24, of which the last may have fewer
 abbrev pub parts_for : ℕ → ℕ
 parts_for count = (count + 23) / 24
 

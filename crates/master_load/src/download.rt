@@ -57,7 +57,7 @@ fn part_cells(cells: &[(Cell, CellValue)], part: u16) -> &[(Cell, CellValue)]
     &cells[first..last]
 }
 
-/// Appends cells with what is to stand in them.
+/// Appends cells with what is to be in them.
 fn push_cells(cells: &[(Cell, CellValue)], binds: &mut ArrayVec<Bind, 32>)
     requires room { array_vec_len binds.old + length cells.now ≤ 32 }
     requires puts { ArePuts (map put_content cells.now) }

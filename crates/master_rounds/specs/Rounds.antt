@@ -18,7 +18,7 @@ use Rattle.master_poll.specs.Sends.{Arrived, Frames, sending_of, notes_of}
 abbrev pub arriving_on : ScenarioContent → ℕ → Way → List (List Reply) → List (List ℕ)
 arriving_on s cab way answered = returning s cab way (map (replied_on (pass_of way)) answered)
 
--- what of the replies of these rounds had arrived at the master's turn in the round behind them
+-- what of the replies of these rounds had arrived at the master's turn in the round after them
 abbrev pub arrived_of : ScenarioContent → ℕ → List (List Reply) → Arrived
 arrived_of s cab answered = record { polls = arriving_on s cab Poll answered; loads = arriving_on s cab Load answered }
 

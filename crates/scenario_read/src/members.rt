@@ -72,7 +72,7 @@ pub fn whole_at(
     }
 }
 
-/// True or false, which must stand at a name.
+/// True or false, which must be at a name.
 pub(crate) fn flag_at(
     alloc: Global,
     object: &Value,
