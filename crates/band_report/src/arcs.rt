@@ -18,7 +18,7 @@ pub struct Arc {
     pub green: u32,
 }
 
-/// A time of the cycle so many ticks later, round the cycle.
+/// A time of the cycle that many ticks later, round the cycle.
 pub(crate) fn turned(time: u32, ticks: u32, cycle: u32) -> u32
     requires some { 0 < cycle }
     ensures is { result ≡ (time + ticks) % cycle }

@@ -78,12 +78,12 @@ abbrev pub opening_lines : ℕ → List CabinetState → List Line
 opening_lines first [] = []
 opening_lines first (t ∷ ts) = shown_line first 0 (last_frame_of (history_of t.cabinet_history)) ∷ opening_lines (first + 1) ts
 
--- the lines of the first rounds of a run, behind its scenario: what each cabinet shows before any tick, and these rounds
+-- the lines of the first rounds of a run, after its scenario: what each cabinet shows before any tick, and these rounds
 abbrev pub front_lines : ScenarioContent → List (List (List ℕ)) → List Line
 front_lines s journals =
     opening_lines 1 (opened_cabinet_states s s.cabinets) ++ rounds_lines s 1 (opened_cabinet_states s s.cabinets) journals
 
--- the lines of a run behind its scenario
+-- the lines of a run after its scenario
 abbrev pub rest_lines : ScenarioContent → List (List (List ℕ)) → List Line
 rest_lines s journals = front_lines s journals ++ Z s.rounds ∷ []
 
