@@ -88,7 +88,7 @@ module _ (s : Intersection) (last p bound g : ℕ) (safe : Safe s) (is-phase : i
     | inr miss ↦ inr (rw miss at e)
   ]
 
-  -- Yellow lasts its time, and then Clear follows, or Red where no red clearance is due
+  -- Yellow lasts its time, and then Clear follows, or Red where no red clearance is required
   from-yellow : (first tick : ℕ) (now : Colour) → colour_at s p (tick + 1) ≡ now → g < first → Since s p Yellow first tick → tick + 1 ≤ g + bound
       → ClearingStands s last p g (tick + 1)
   from-yellow first tick Yellow after late since short = IsYellow first late (since-on s p first tick Yellow since after)

@@ -25,15 +25,15 @@ use Rattle.station.specs.Checked.{CheckAnswer}
 use Rattle.station.specs.Overlapped.{OverlapAnswer}
 use Rattle.station.specs.Lived.{IsLineRefused, LivesShort, LiveAnswer}
 
--- a text that the program makes was written whole; or a write failed, and a front of it was written and not all of it; or there was not
--- memory enough to make it, and nothing was written
+-- a text that the program makes was written whole; or a write failed, and a prefix of it was written and not all of it;
+-- or there was not memory enough to make it, and nothing was written
 abbrev pub MakesText : Status → List ℕ → Type 0 → Option (List ℕ) → Option (List ℕ) → Type 0
 MakesText Done text unwritten old new = Appends old new text
 MakesText WriteFault text unwritten old new = unwritten × AppendsFront old new text
 MakesText NoMemory text unwritten old new = new ≡ old
 MakesText _ text unwritten old new = ⊥
 
--- what an answer to a command tells of the input and the output, and which answer is due
+-- what an answer to a command tells of the input and the output, and which answer is expected
 abbrev pub Answered : Command → Status → Io → Type 0
 Answered (Run workers) status io = RunAnswer workers status io
 Answered Check status io = (io.new ≡ io.old) × CheckAnswer status io
@@ -86,9 +86,10 @@ pub record Causes (words : List (List ℕ)) (status : Status) (io : Io) : Type 0
   pub no_trace : (fault : TraceFault) → status ≡ NotATrace fault → IsCheck words ⊎ ((o : Overlap) × IsOverlaps words o)
   pub broken_overlap : (fault : OverlapFault) → status ≡ BrokenOverlap fault → (o : Overlap) × IsOverlaps words o
 
--- what an answer tells, by the words. Help and version: the whole text was written, or a write failed and a front of it was. Generate: the
--- text of the scenario that these numbers give was, in the same way, or there was not memory enough to make it. Survey: the text of what a
--- run of that scenario comes to, counted in the lines of its trace in the serial order, was.
+-- what an answer tells, by the words. Help and version: the whole text was written, or a write failed and a prefix of
+-- it was. Generate: the text of the scenario that these numbers give was, in the same way, or there was not memory
+-- enough to make it. Survey: the text of what a run of that scenario comes to, counted in the lines of its trace in the
+-- serial order, was.
 pub record Answers (words : List (List ℕ)) (status : Status) (io : Io) : Type 0 where
   pub help : IsHelp words → WritesText status HELP.now io.unwritten io.old io.new
   pub version : IsVersion words → WritesText status VERSION.now io.unwritten io.old io.new

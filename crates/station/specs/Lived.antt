@@ -35,7 +35,7 @@ pub record LivesWhole (left old new : Option (List ℕ)) : Type 0 where
   pub written : Appends old new (session_text scenario requests)
   pub run : (compact : List ℕ) → SessionIsRun scenario requests compact
 
--- it stopped short: a front of the text of the answers was appended, and not all of it
+-- it stopped short: a prefix of the text of the answers was appended, and not all of it
 pub record LivesShort (left old new : Option (List ℕ)) : Type 0 where
   pub scenario : ScenarioContent
   pub requests : List (List ℕ)
@@ -46,7 +46,7 @@ pub record LivesShort (left old new : Option (List ℕ)) : Type 0 where
 abbrev pub IsTooLongLine : Option (List ℕ) → Type 0
 IsTooLongLine left = IfSome left (λ input. 16777216 < length (first_line input))
 
--- the first fault of a first line: that of a scenario, or the first item that doesn't stand by rounds
+-- the first fault of a first line: that of a scenario, or the first item that isn't by rounds
 abbrev pub IsFirstLineFault : List ℕ → Refusal → Type 0
 IsFirstLineFault line refusal = IsFirstFault line refusal ⊎ ((s : ScenarioContent) × IsScenario line s × IsOrderFault s refusal)
 
@@ -70,17 +70,18 @@ Lived WriteFault io = io.unwritten × LivesShort io.left io.old io.new
 Lived NoMemory io = (io.new ≡ io.old) ⊎ LivesShort io.left io.old io.new
 Lived _ io = ⊥
 
--- the line is no scenario for a session
+-- the line is not a scenario for a session
 abbrev pub IsNoBase : List ℕ → Type 0
 IsNoBase line = (s : ScenarioContent) → IsBase line s → ⊥
 
--- the answer to `live` that an input is due, where no read fails: for too long a first line, one that is no scenario by rounds, and one that is
+-- the answer to `live` that an input is expected, where no read fails: for too long a first line, one that is not a
+-- scenario by rounds, and one that is
 pub record IsLiveDue (status : Status) (line : List ℕ) (unwritten : Type 0) : Type 0 where
   pub too_long : 16777216 < length line → IsLengthRefusal status
   pub fault : IsShort line → IsNoBase line → NamesFault IsFirstLineFault status line
   pub done : IsShort line → (s : ScenarioContent) → IsBase line s → ¬ unwritten → status ≡ Done
 
--- what an answer to `live` tells; and where no read fails it is the one that the first line is due, or memory was wanting
+-- what an answer to `live` tells; and where no read fails it is the one expected for the first line, or memory ran out
 pub record LiveAnswer (status : Status) (io : Io) : Type 0 where
   pub told : Lived status io
   pub due : ¬ io.unread → IfSome io.left (λ input. IsLiveDue status (first_line input) io.unwritten ⊎ (status ≡ NoMemory))

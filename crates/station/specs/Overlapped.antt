@@ -34,13 +34,14 @@ Overlapped asked WriteFault io =
 Overlapped asked NoMemory io = io.new ≡ io.old
 Overlapped asked _ io = ⊥
 
--- the answer that an input is due, where no read fails: one that is no trace has its first fault; at a trace the overlap breaks a rule, or it breaks none
+-- the answer expected for an input, where no read fails: one that is not a trace has its first fault; at a trace the
+-- overlap breaks a rule, or it breaks none
 pub record IsOverlapDue (asked : Overlap) (status : Status) (input : List ℕ) (unwritten : Type 0) : Type 0 where
   pub fault : (fault : TraceFault) → FirstFault input fault.line fault.rule → status ≡ NotATrace fault
   pub broken : (fault : OverlapFault) → IsCheckable input → BreaksRule input asked fault → status ≡ BrokenOverlap fault
   pub done : IsCheckable input → IsTrace input → ((fault : OverlapFault) → BreaksRule input asked fault → ⊥) → ¬ unwritten → status ≡ Done
 
--- what an answer to `overlaps` tells; and where no read fails it is the one that the input is due, or memory was wanting
+-- what an answer to `overlaps` tells; and where no read fails it is the one expected for the input, or memory ran out
 pub record OverlapAnswer (asked : Overlap) (status : Status) (io : Io) : Type 0 where
   pub told : Overlapped asked status io
   pub due : ¬ io.unread → IfSome io.left (λ input. IsOverlapDue asked status input io.unwritten ⊎ (status ≡ NoMemory))

@@ -1,4 +1,5 @@
-//! What `live` does: the first line of the input is a scenario, and each line behind it a request, which is answered before more is read.
+//! What `live` does: the first line of the input is a scenario, and each line after it a request, which is answered
+//! before more is read.
 
 ghost use Rattle.std.specs.Prelude.{◌≡◌, ◌≤◌, ◌<◌, ◌⊎◌, ℕ, List, [], true, length, Option, Err, IfOk, OnOk};
 ghost use Rattle.io_edge.specs.Edge.{Rises, Stays, Appends};
@@ -27,7 +28,8 @@ use session_words::{FirstStop, LineReader, LineStop, Next};
 use sig_types::NoMemory;
 use std::alloc::Global;
 
-/// The scenario that the first line of the input is: one that `run` takes, and whose loads and priority requests stand by rounds.
+/// The scenario that the first line of the input is: one that `run` takes, and whose loads and priority requests are
+/// ordered by rounds.
 fn base<S: Source>(
     alloc: Global,
     reader: &mut LineReader,
@@ -195,7 +197,7 @@ fn opened<K: Sink>(
     }
 }
 
-/// Answers the scenario that the first line of the input is, and the requests behind it.
+/// Answers the scenario that the first line of the input is, and the requests after it.
 pub fn live<S: Source, K: Sink>(alloc: Global, source: &mut S, sink: &mut K) -> Status
     ensures answered { LiveAnswer result (io_of S.left S.faults K.written K.faults source.old source.new sink.old sink.new) }
     ensures reads { Counts result S.counts_exactly (S.faults source.old) (S.faults source.new) }

@@ -128,7 +128,7 @@ pub fn station<R: Threads + Sync, S: Source, K: Sink, G: Gate + Sync>(
     sink: &mut K,
     gate: &G,
 ) -> Status
-    // Usage comes exactly where the words are no command; nothing is read or written then.
+    // Usage comes exactly where the words are not a command; nothing is read or written then.
     ensures usage { result ≡ Status.Usage ↔ ¬ IsCommand (map string_bytes words.now.items) }
     ensures untouched { result ≡ Status.Usage → (source.new ≡ source.old) × (sink.new ≡ sink.old) }
 

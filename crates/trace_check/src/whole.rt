@@ -83,7 +83,7 @@ fn check_rounds<'a>(
     Ok(at)
 }
 
-/// Nothing is left behind the end.
+/// Nothing is left after the end.
 fn expect_nothing(at: Place) -> Result<(), CheckFail>
     ensures { ReadsWhole Ends at.entry result }
 {
@@ -94,7 +94,7 @@ fn expect_nothing(at: Place) -> Result<(), CheckFail>
     }
 }
 
-/// What comes behind the line of the scenario.
+/// What comes after the line of the scenario.
 fn check_rest(
     alloc: Global,
     start: Place,

@@ -1,4 +1,5 @@
--- What traces are worth: what may stand next is determined, journals are told, every front goes on, and a first fault is one.
+-- What traces are worth: what is allowed next is determined, journals are reported, every prefix continues, and a first
+-- fault is one.
 use Rattle.std.specs.Prelude.{ℕ, ◌≡◌, ◌≢◌, ◌⊎◌, List, [], ◌++◌}
 use Rattle.trace_text.specs.declared.lines.Line.{Line}
 use Rattle.trace_text.specs.declared.lines.Line.TheVariants.{J}
@@ -27,7 +28,7 @@ DueIsDetermined = (s : ScenarioContent) (before : List Line) (a b : Line) → Ma
 abbrev pub RoundsAreFronts : Type 0
 RoundsAreFronts = (s : ScenarioContent) (journals : List (List (List ℕ))) → BeginJournals s journals → IsFrontOf s (front_lines s journals)
 
--- behind a whole run nothing follows
+-- after a whole run nothing follows
 abbrev pub NothingFollows : Type 0
 NothingFollows = (s : ScenarioContent) (lines : List Line) (next : Line) → IsTraceOf s lines → MayFollow s lines next → ⊥
 
@@ -58,7 +59,7 @@ pub record TellsOfRun (text : List ℕ) : Type 0 where
   pub text_is : text ≡ run_text scenario journals
   pub kept : TellsAllKept scenario journals text
 
--- the lines of a front are lines of a trace
+-- the lines of a prefix are lines of a trace
 abbrev pub FrontsAreProper : Type 0
 FrontsAreProper = (s : ScenarioContent) (before : List Line) → Runnable s → IsFrontOf s before → AreLines before
 

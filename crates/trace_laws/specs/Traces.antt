@@ -20,14 +20,14 @@ IsTrace text = (s : ScenarioContent) × (journals : List (List (List ℕ))) × I
 abbrev pub IsCheckable : List ℕ → Type 0
 IsCheckable text = length text ≤ 67108864
 
--- the lines behind the first are those of a run of this scenario
+-- the lines after the first are those of a run of this scenario
 abbrev pub IsTraceOf : ScenarioContent → List Line → Type 0
 IsTraceOf s lines = (journals : List (List (List ℕ))) × AreJournals s journals × (lines ≡ rest_lines s journals)
 
--- some run of the scenario begins with these lines, behind the first
+-- some run of the scenario begins with these lines, after the first
 abbrev pub IsFrontOf : ScenarioContent → List Line → Type 0
 IsFrontOf s before = (rest : List Line) × IsTraceOf s (before ++ rest)
 
--- some run that begins so goes on with this line
+-- some run that begins so continues with this line
 abbrev pub MayFollow : ScenarioContent → List Line → Line → Type 0
 MayFollow s before line = IsFrontOf s (before ++ line ∷ [])
