@@ -26,8 +26,8 @@ abbrev pub AreAhead : Option (List ℕ) → Option (List ℕ) → List (List ℕ
 AreAhead None ahead lines = Unit {0}
 AreAhead (Some input) ahead lines = (rest : List ℕ) × (ahead ≡ Some rest) × (requests_in input ≡ lines ++ whole_lines rest)
 
--- these lines of the input were answered, as by these answers, and the session has reached this by them: whatever lines
--- are ahead, what is answered to them is what the session answers from here on
+-- these lines of the input were answered by these answers, and the session has reached this state by them: for any
+-- lines that follow, their answers are what the session answers from here on
 pub record IsAnswering (left ahead old new : Option (List ℕ)) (s : ScenarioContent) (h : SessionHistory) : Type 0 where
   pub lines : List (List ℕ)
   pub done : List Answer
@@ -41,13 +41,13 @@ pub record AnswersThis (over : Bool) (s : ScenarioContent) (h : SessionHistory) 
   pub over_is : over ≡ is_over s (next_session s h line)
   pub stands : over ≡ false → SessionStands session s (next_session s h line)
 
--- that line is the next of the input
+-- that line is the next one of the input
 pub record AnswersLine (over : Bool) (s : ScenarioContent) (h : SessionHistory) (session : Session) (before behind : Option (List ℕ)) (text : List ℕ) : Type 0 where
   pub line : List ℕ
   pub next : GivesLine before behind line
   pub answers : AnswersThis over s h session line text
 
--- no line is ahead: the text is the answer to the end of the input, and the session is over
+-- no line follows: the text is the answer to the end of the input, and the session is over
 pub record AnswersEnd (over : Bool) (s : ScenarioContent) (h : SessionHistory) (before : Option (List ℕ)) (text : List ℕ) : Type 0 where
   pub none : HasNoLine before
   pub answer : text ≡ answer_text (Lines (end_of_input_lines s h))
@@ -56,7 +56,7 @@ pub record AnswersEnd (over : Bool) (s : ScenarioContent) (h : SessionHistory) (
 abbrev pub AnswersNext : Bool → ScenarioContent → SessionHistory → Session → Option (List ℕ) → Option (List ℕ) → List ℕ → Type 0
 AnswersNext over s h session before behind text = AnswersLine over s h session before behind text ⊎ AnswersEnd over s h before text
 
--- the whole text of the session of these requests was written, or a prefix of it and not all
+-- the whole text of the session of these requests was written, or a proper prefix of it
 pub record IsWhole (left old new : Option (List ℕ)) (s : ScenarioContent) : Type 0 where
   pub requests : List (List ℕ)
   pub asked : IfSome left (λ input. requests ≡ requests_in input)
@@ -81,8 +81,8 @@ StopsAtOpening WriteFault unwritten old new s = unwritten × AppendsFront old ne
 StopsAtOpening NoMemory unwritten old new s = new ≡ old
 StopsAtOpening _ unwritten old new s = ⊥
 
--- a session that has continued from an earlier state of it: it is under way, and whatever the earlier state was
--- answering it is answering now
+-- a session that has continued from an earlier state of it: it is under way, and still has to give the answers that the
+-- earlier state had to give
 pub record SessionGoesOn (from now : Session) (ahead_from ahead written_from written : Option (List ℕ)) : Type 0 where
   pub stands : (s : ScenarioContent) × (h : SessionHistory) × SessionStands now s h
   pub goes : (left old : Option (List ℕ)) (s : ScenarioContent) (h : SessionHistory) → SessionStands from s h → IsAnswering left ahead_from old written_from s h
