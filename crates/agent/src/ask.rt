@@ -46,7 +46,7 @@ pub enum Wish {
     Begin(u32),
     /// That this part, 1 to 60,000, of the download of this id is taken: the cells with what is put into them.
     Part(u32, u16, ArrayVec<(Cell, CellValue), 30>),
-    /// That the download of this id is verified, which has so many parts, 0 to 60,000.
+    /// That the download with this id, which has this number of parts, 0 to 60,000, is verified.
     Verify(u32, u16),
     /// That the download of this id is put in force.
     Finish(u32),

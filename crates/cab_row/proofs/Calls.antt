@@ -114,7 +114,7 @@ module _ {B : Type 0} where
   )
 
 module _ {B : Type 0} (code : B → Gv) (journal : B → List ℕ) (left_of : B → ℕ → ℕ) (Replays : B → B → Type 0) where
-  -- the book that was taken has so many items left of this pass
+  -- the book that was taken has this number of items left of this pass
   pub has_items : (books : List B) (passes n i r most : ℕ) (v : View) (m : Sat B) (b : B) → IsOwn (map code books) passes n v → m ≡ (looked v i r, []) → i < length books
       → Since code journal left_of Replays m.0.opening i b → times m.0.number (journal b) ≡ count m.0.number i m.0
       → ((first : B) → get_elem? books i ≡ some first → count n i v + most ≤ left_of first n) → most ≤ left_of b n

@@ -42,7 +42,7 @@ pub regrouped : (a b c : Bool) → ((a && not b) && c) ≡ (a && (not b && c))
 regrouped true b c = refl
 regrouped false b c = refl
 
--- with the ticks for which it is held a force point lies past this counter where these alone do
+-- with the ticks for which it is held, a force point lies past this counter if these ticks by themselves do
 pub not-yet : (a : Bool) (force held counter : ℕ) → counter < held → false ≡ (a && nat_le (force + held) counter)
 not-yet a force held counter h = rw (lt-leb (force + held) counter (omega arith)) (none a)
   where

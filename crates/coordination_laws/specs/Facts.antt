@@ -1,6 +1,5 @@
 -- What is known of each tick of a cabinet whose clock drifts as is said, and what of that is carried along: so that the
--- history meets what coordination promises. Where the clock comes to a different time from that, it counts as one that
--- was set.
+-- history meets what coordination promises. If the clock shows a different time, it counts as one that was set.
 use Rattle.std.specs.Prelude.{ℕ, Bool, true, false, ◌≡◌, ◌⊎◌, ◌≤◌, ◌<◌, ◌+◌, ◌==◌, ◌&&◌, List, [], ◌∷◌}
 use Rattle.sig_types.specs.declared.frame.Mode.{Mode}
 use Rattle.sig_types.specs.declared.frame.Mode.TheVariants.{Seek, Coord}

@@ -41,7 +41,7 @@ pub entries-plain : (entries : List Entry) → items_have_float (items_of (map e
 entries-plain [] = refl
 entries-plain (entry ∷ entries) = entries-plain entries
 
--- and stand as the schedule
+-- and are the schedule
 pub entries-put : (old now : ScenarioText) (entries : List Entry) (vs : List Data) (s : Data) → vs ≡ map entry_value entries
     → ((d : Data) → items_have_float (items_of vs) ≡ false → Writes old d → Writes now (another_schedule (items_of vs) d)) → Writes old s → Writes now (with_schedule (Some entries) s)
 entries-put old now entries vs s is put before =

@@ -33,7 +33,7 @@ pub struct LoadFrame {
     pub id: i32,
 }
 
-/// The step after one that was answered well, where the load has so many cells; none after finish.
+/// The step after one that was answered without a fault, if the load has this number of cells; none after finish.
 pub(crate) fn step_after(cells: usize, step: Step) -> Option<Step>
     requires { cells ≤ 768 }
     ensures { result ≡ step_after (parts_for cells) step }

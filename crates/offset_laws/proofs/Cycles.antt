@@ -85,8 +85,7 @@ gains-tick k most t c before e room three a some goes = elim (cases_order (e + 1
   | inr (inr more) ↦ absurd (let below : e < k.cycle = a.error in omega arith)
 ]
 
--- ---- the cycle
--- counter and target meet within so many ticks
+-- ---- the cycle counter and target meet within that many ticks
 pub record Meeting (k : Correction) (m : ℕ) (drifts : ℕ → Drift) (t : ℕ) (past : List ℕ) : Type 0 where
   pub ticks : ℕ
   pub within : ticks ≤ m

@@ -11,7 +11,7 @@ use Rattle.sig_tables.specs.Tables.{yellow_time, red_clear_time}
 use Rattle.safety_laws.specs.Safe.{Intersection, Safe, Interval, colour_at, in_force, next_colour}
 use Rattle.overlap_run.specs.Street.{VersionsUpTo}
 
--- the least clearance of a phase over the versions up to the last is at least so long
+-- the shortest clearance of a phase over the versions up to the last is at least that long
 abbrev pub IsLeast : Intersection → ℕ → ℕ → ℕ → Type 0
 IsLeast s last p bound = (v w : ℕ) → v ≤ last → w ≤ last → bound ≤ yellow_time (s.tables v) p + red_clear_time (s.tables w) p
 

@@ -83,7 +83,7 @@ reply-lines cab (r ∷ first) more =
     ap (λ (lines : List Line). load_lines cab r.load ++ A cab r.pass r.text ∷ lines) (reply-lines cab first more)
     ∙ sym (append_assoc (load_lines cab r.load) (A cab r.pass r.text ∷ reply_lines cab first) (reply_lines cab more))
 
--- a tick has the line of its frame alone, and another item those of its reply
+-- a tick has only the line of its frame, and any other item the lines of its reply
 tick-line : (cab : ℕ) (cabinet_history : CabinetHistory) (pass : ℕ) (item : Item) → item ≡ Ticked
     → item_lines cab cabinet_history pass item ≡ frame_lines cab (item_written cabinet_history item)
 tick-line cab cabinet_history pass item tick =

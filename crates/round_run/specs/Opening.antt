@@ -19,7 +19,7 @@ pub record AreComing (s : ScenarioContent) (ts : List CabinetState) (streams : L
   pub many : length streams ≡ length ts
   pub each : (k : ℕ) (t : CabinetState) (one : Streams) → k < length ts → items_of (get_or streams k one) ≡ coming_streams s (k + 1) (get_or ts k t)
 
--- a round has so many ticks at most
+-- a round has at most this number of ticks
 abbrev pub TicksAtMost : ℕ → List Streams → Type 0
 TicksAtMost ticks streams = (k : ℕ) (one : Streams) → k < length streams → (get_or streams k one).ticks ≤ ticks
 

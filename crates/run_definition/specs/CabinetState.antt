@@ -1,5 +1,5 @@
--- What a cabinet has reached between rounds, and what a round adds, by the journal of the round: which pass brought the
--- next item, time after time. Lists of rounds have the newest first.
+-- The state that a cabinet has reached between rounds, and what a round adds, by the journal of the round: which pass
+-- brought the next item, item by item. Lists of rounds have the newest first.
 use Rattle.std.specs.Prelude.{ℕ, ◌+◌, ◌≡◌, ◌⊎◌, List, [], ◌∷◌, ◌++◌, Option, Some, None}
 use Rattle.arrayvec.specs.ArrayVec.{ArrayVec}
 use Rattle.scenario_data.specs.Content.{CabinetContent, ScenarioContent}
@@ -58,7 +58,7 @@ abbrev pub each_cabinet_state : ScenarioContent → ℕ → List CabinetState �
 each_cabinet_state s first (t ∷ ts) (journal ∷ journals) = next_cabinet_state s first t journal ∷ each_cabinet_state s (first + 1) ts journals
 each_cabinet_state s first _ _ = []
 
--- and after rounds with these, of which the first comes first
+-- and after rounds with these journals, the first round first
 abbrev pub cabinet_states_after : ScenarioContent → List CabinetState → List (List (List ℕ)) → List CabinetState
 cabinet_states_after s ts [] = ts
 cabinet_states_after s ts (journals ∷ later) = cabinet_states_after s (each_cabinet_state s 1 ts journals) later

@@ -186,7 +186,7 @@ fn items_in(
     Ok(found)
 }
 
-/// What is asked in a scenario with that many rounds and cabinets; nothing where nothing is said.
+/// What is asked in a scenario with that many rounds and cabinets; nothing by default.
 #[tactic(auto, using(crate::proofs::Refusing::refuses_more))]
 pub(crate) fn priority_at(
     alloc: Global,

@@ -157,7 +157,7 @@ journals-counted s (steps ∷ before) =
 
 -- ---- all rounds
 
--- so far the cabinets of the scenario that results come to the same, by journals of it, and have the same lines
+-- so far the cabinets of the resulting scenario reach the same state, by its journals, and have the same lines
 pub record RoundsKept (s : ScenarioContent) (all : List (List Step)) (compact : List ℕ) (rounds : List (List Step)) : Type 0 where
   pub states : cabinet_states_after (resulting s all compact) (opened_cabinet_states s s.cabinets) (session_journals s rounds) ≡ states_after s rounds
   pub merges : AreMerges (resulting s all compact) (opened_cabinet_states s s.cabinets) (session_journals s rounds)

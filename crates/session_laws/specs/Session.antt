@@ -12,7 +12,7 @@ use Rattle.run_definition.specs.CabinetState.{CabinetState, answers_in, coming_s
 use Rattle.session_words.specs.declared.request.Request.{Request}
 use Rattle.session_words.specs.declared.request.Request.TheVariants.{Tick, Input, Frame}
 
--- what a request that was taken does: each cabinet has so many ticks, or a pass brings an item to one cabinet
+-- the effect of an accepted request: each cabinet has this number of ticks, or a pass brings an item to one cabinet
 pub data Step : Type 0 where
   Ticks : (many : ℕ) → Step
   Brings : (cab pass : ℕ) (item : Item) → Step

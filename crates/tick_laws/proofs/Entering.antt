@@ -19,7 +19,7 @@ use Rattle.sig_tables.proofs.Below.{coordinated-enabled}
 use Rattle.tick_laws.specs.Zero.{HoldsPair, Sees}
 use Rattle.tick_laws.proofs.Finding.{finds-only, finds-none, some-passes, none-passes, passes-some, finds-some, in-those-of, or_else-left, later-or-earlier, heads-of, in-from_side}
 
--- at counter 0 there is room for a held phase alone
+-- at counter 0 there is room only for a held phase
 room-held : (b : Option ℕ) (t : Tables) (n k q : ℕ) → b ≡ Some n → is_coordinated t n q ≡ true → has_room b t 0 k q ≡ true
 room-held b t n k q e h = rw (e, h) refl
 

@@ -36,7 +36,7 @@ fn push(frame_history: &mut FrameHistory, t: &Tables, seen: &Seen, more: u32) {
     frame_history.push_again(seen.active, seen.opposed, more);
 }
 
-/// A phase alone.
+/// Only one phase.
 fn alone(phase: u8) -> PhaseSet
     requires above { 0 < phase }
     requires within { phase ≤ 16 }

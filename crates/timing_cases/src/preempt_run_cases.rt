@@ -72,8 +72,8 @@ fn happens(preempts: &mut Preempts, tables: &mut Tables, on: &mut [u8; 2], event
     }
 }
 
-/// The mode that preemption asks for at a tick, each event standing with the tick that it comes before; free operation
-/// where it asks for none.
+/// The mode that preemption requires at a tick, each event listed with the tick that it precedes; free operation if it
+/// requires none.
 fn mode_at(tick: u32, tables: &Tables, events: &[(u32, Event)]) -> Mode {
     let mut tables = tables.copy();
     let mut preempts = Preempts::new();

@@ -1,5 +1,5 @@
--- All runs of a scenario as one tree: which line is expected, or whose journal is asked for, by which it then
--- continues. A text that is read against it is walked line by line, or leaves it at its first fault.
+-- All runs of a scenario as one tree: it has the next expected line, or the cabinet whose journal comes next and
+-- decides how the tree continues. A text is compared with it line by line, and leaves it at its first fault.
 use Rattle.std.specs.Prelude.{ℕ, zero, suc, ◌+◌, ◌≡◌, ◌≢◌, if◌then◌else◌, List, [], ◌∷◌, ◌++◌, length}
 use Rattle.trace_text.specs.declared.lines.Line.{Line}
 use Rattle.trace_text.specs.declared.lines.Line.TheVariants.{J, Z}
@@ -32,12 +32,12 @@ Goes (Says due rest) (line ∷ lines) end = (line ≡ due) × Goes rest lines en
 Goes (Hears cab streams next) (line ∷ lines) end =
     (journal : List ℕ) × (line ≡ J cab (runs_of journal)) × IsMerge streams journal × Goes (next journal) lines end
 
--- a cabinet's round: its journal, the lines of what that brings, and then what follows
+-- a cabinet's round: its journal, the lines of what the journal brings, and then what follows
 abbrev pub cabinet_script : ScenarioContent → ℕ → CabinetState → (List ℕ → Script) → Script
 cabinet_script s cab t next =
     Hears cab (coming_streams s cab t) (λ journal. say (acts_lines cab t.cabinet_history (round_acts s cab t journal)) (next journal))
 
--- the rounds of the cabinets from this number on; those before it have reached what is gone, in order
+-- the rounds of the cabinets from this number on; the cabinets before it have reached these states, in order
 abbrev pub cabinets_script : ScenarioContent → ℕ → List CabinetState → List CabinetState → (List CabinetState → Script) → Script
 cabinets_script s first gone [] rest = rest gone
 cabinets_script s first gone (t ∷ ts) rest =
@@ -57,7 +57,7 @@ abbrev pub script_of : ScenarioContent → Script
 script_of s =
     say (opening_lines 1 (opened_cabinet_states s s.cabinets)) (rounds_script s 1 s.rounds (opened_cabinet_states s s.cabinets))
 
--- the rule of a line where another is expected
+-- the rule that a line breaks if another is expected
 abbrev pub rule_for : Line → Line → ℕ
 rule_for due line = if same_head due line then rule_of line else 4
 
