@@ -30,7 +30,7 @@ fn code_of(status: &Status) -> u8
     }
 }
 
-/// The words behind the program's name. Words that aren't UTF-8 are no command.
+/// The words after the program's name. Words that aren't UTF-8 are not a command.
 fn words_of(rt: &HostRuntime) -> Result<Vec<String>, Status> {
     let args = match env::args(rt) {
         Ok(args) => args,

@@ -56,7 +56,7 @@ pub record Gathered (section n : ℕ) (inbound : Bool) (all : List Cabinet) (fou
 pub gathered_none : (section n : ℕ) (inbound : Bool) (all : List Cabinet) → Gathered section n inbound all [] 0
 gathered_none section n inbound all = record { is = refl }
 
--- a cabinet of the section stands before the rest of it, and another does not count
+-- a cabinet of the section is before the rest of it, and another does not count
 one-in : (section number : ℕ) (c : CabinetContent) (more : List CabinetContent) → (c.section == section) ≡ true
     → members_from section number (c ∷ more) ≡ record { number = number; tables = opening_tables c } ∷ members_from section (number + 1) more
 one-in section number c more h = rw h refl

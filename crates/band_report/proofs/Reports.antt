@@ -28,7 +28,7 @@ finds-is n r cycle c time own =
         let e : time + after + shift + behind ≡ time + (after + shift + behind) = omega arith in
         ap (λ (x : ℕ). x % own) e ∙ sym (add-mod-mod time (after + shift + behind) own)
 
--- both are above 0 where their lesser is
+-- both are above 0 where their smaller is
 both-above : (u g m : ℕ) → (nat_lt u g && nat_lt 0 m) ≡ nat_lt 0 (min (g - u) m)
 both-above u g m = split (nat_lt u g) (nat_lt 0 m) refl refl
   where

@@ -1,4 +1,4 @@
--- What is told of an object that asks of bands: two lines, or its first fault.
+-- What is reported of an object that asks of bands: two lines, or its first fault.
 use Rattle.std.specs.Prelude.{ℕ, ◌≡◌, List, [], ◌++◌, codes, decimal, false, true, Bool, Option, Some, None}
 use Rattle.serde_json.specs.Data.{Data}
 use Rattle.scenario_data.specs.declared.refusal.Refusal.{Refusal}

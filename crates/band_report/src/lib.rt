@@ -26,8 +26,8 @@ pub use file_laws::{bytes_have_one_answer, limits_have_names};
 pub use misfit::{Misfit, misfit_of};
 pub use told::report;
 
-/// A law: a window is the set of times that lie fewer ticks than its force point behind the offset less the shift, round the
-/// cycle.
+/// A law: a window is the set of times that lie fewer ticks than its force point after the offset less the shift, round
+/// the cycle.
 pub fn windows_are_times()
     ensures { (t : Tables) (n r time : ℕ) → 0 < cycle_time t n → IsTrue (in_window t n r time) ↔ InWindow t n r time }
 {}

@@ -8,7 +8,7 @@ use crate::worker::Worker;
 use crate::{Logged, Pass, Row};
 use std::alloc::{AllocError, Global};
 
-/// So many workers, each with room for eight passes.
+/// That many workers, each with room for eight passes.
 pub(crate) fn idle(alloc: Global, workers: u32) -> Result<Vec<Worker>, AllocError>
     ensures { IfOk result (λ v. (vec_len v ≡ workers) × All IsIdle v.items) }
 {

@@ -8,7 +8,7 @@ one_seen : (b : Bool) (x y n : ℕ) → n ≡ x + (if b then y + 1 else y) → n
 one_seen true x y n e = omega (arith, e)
 one_seen false x y n e = e
 
--- the item of a pass that stands at this place
+-- the item of a pass that is at this place
 abbrev pub act_at : List (List Item) → ℕ → ℕ → Act
 act_at streams p place = record { pass = p; item = get_or (get_or streams p []) place Ticked }
 

@@ -51,7 +51,7 @@ seen_in c = record {
   last = last_answer (answered c.calls);
 }
 
--- the octets of the reply to what is asked, by what the cabinet has come to before it; silence where nothing is asked
+-- the octets of the reply to what is asked, by what the cabinet has reached before it; silence where nothing is asked
 abbrev pub replied : Coming → Option Ask → Option (List ℕ)
 replied c None = None
 replied c (Some ask) = Some (shortest (reply (seen_in c) ask.message ask.wish (outcome c ask.wish)))
@@ -90,7 +90,8 @@ abbrev pub in_frame : Option (List ℕ) → Option (ArrayVec ℕ)
 in_frame None = None
 in_frame (Some octets) = Some (record { items = octets })
 
--- what is told of an item that a pass brings after a cabinet history: of a frame the reply, which may be silence, and the end of a load
+-- what is reported of an item that a pass brings after a cabinet history: of a frame the reply, which may be silence,
+-- and the end of a load
 abbrev pub item_replies : CabinetHistory → ℕ → Item → List Reply
 item_replies cabinet_history pass (InputTold field) = []
 item_replies cabinet_history pass (Came octets) = record { pass = pass; text = in_frame (reply_to cabinet_history octets); load = load_end cabinet_history octets } ∷ []
@@ -102,7 +103,7 @@ item_written cabinet_history (InputTold field) = []
 item_written cabinet_history (Came octets) = []
 item_written cabinet_history Ticked = tick_written (history_of cabinet_history)
 
--- what is told of these acts, in order
+-- what is reported of these acts, in order
 abbrev pub acts_replies : CabinetHistory → List Act → List Reply
 acts_replies cabinet_history [] = []
 acts_replies cabinet_history (act ∷ acts) = item_replies cabinet_history act.pass act.item ++ acts_replies (with_item cabinet_history act.item) acts

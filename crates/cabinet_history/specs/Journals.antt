@@ -2,12 +2,12 @@
 use Rattle.std.specs.Prelude.{ℕ, ◌+◌, ◌==◌, ◌≡◌, if◌then◌else◌, List, [], ◌∷◌, ◌++◌, length, replicate, get_or}
 use Rattle.sig_types.specs.Items.{Item, Ticked}
 
--- how often a number stands in a list
+-- how often a number is in a list
 abbrev pub times : ℕ → List ℕ → ℕ
 times p [] = 0
 times p (q ∷ qs) = if p == q then times p qs + 1 else times p qs
 
--- a journal of these streams: each pass stands in it just as often as its stream has items
+-- a journal of these streams: each pass is in it just as often as its stream has items
 abbrev pub IsMerge : List (List Item) → List ℕ → Type 0
 IsMerge streams journal = (p : ℕ) → times p journal ≡ length (get_or streams p [])
 

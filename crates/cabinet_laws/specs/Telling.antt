@@ -33,7 +33,7 @@ item_told cabinet_history (Input field) = []
 item_told cabinet_history (Came octets) = load_told (load_end cabinet_history octets)
 item_told cabinet_history Ticked = frames_told (item_written cabinet_history Ticked)
 
--- what items tell, of which the newest stands first, in the order in which they came
+-- what items tell, of which the newest is first, in the order in which they came
 abbrev pub items_told : List ℕ → History → List Item → List CabinetTold
 items_told community opening [] = Shows 0 (shown_by first_frame) ∷ []
 items_told community opening (item ∷ items) =

@@ -7,7 +7,7 @@ use Rattle.command_words.specs.declared.command.Overlap.{Overlap}
 use Rattle.command_words.specs.declared.command.Command.{Command}
 use Rattle.command_words.specs.declared.command.Command.TheVariants.{Run, Check, Generate, Survey, Band, Respond, Overlaps, Live, Help, Version}
 
--- to run a scenario by so many workers, 0 to 8; with no number it is by none
+-- to run a scenario by that many workers, 0 to 8; with no number it is by none
 abbrev pub IsRun : List (List ℕ) → ℕ → Type 0
 IsRun words workers =
     ((words ≡ codes "run" ∷ []) × (workers ≡ 0)) ⊎ ((words ≡ codes "run" ∷ codes "--workers" ∷ decimal workers ∷ []) × (workers ≤ 8))

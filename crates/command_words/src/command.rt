@@ -27,7 +27,7 @@ pub struct Overlap {
 /// What the words can ask for.
 #[derive(PartialEq, Drop)]
 pub enum Command {
-    /// To run a scenario by so many workers; by none in the serial order.
+    /// To run a scenario by that many workers; by none in the serial order.
     Run(u32),
     /// To tell whether a text is a trace.
     Check,

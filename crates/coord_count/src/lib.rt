@@ -118,7 +118,7 @@ impl Count {
         counter
     }
 
-    /// Dwelling: the counter stands still at local zero, up to the limit.
+    /// Dwelling: the counter waits at local zero, up to the limit.
     fn dwelling(&self, plan: &Plan, limits: Limits) -> u32
         requires counter { counter_of self.now < plan.now.cycle }
         ensures next { (counters : List ℕ) → CountStands self.now counters
@@ -132,7 +132,7 @@ impl Count {
         }
     }
 
-    /// Adding: the counter stands still at every second tick, up to the limit.
+    /// Adding: the counter waits at every second tick, up to the limit.
     fn adding(&self, plan: &Plan, limits: Limits) -> u32
         requires counter { counter_of self.now < plan.now.cycle }
         ensures next { (counters : List ℕ) → CountStands self.now counters
@@ -163,7 +163,7 @@ impl Count {
 
 ghost use Rattle.sig_tables.specs.Counting.{ahead, tick_later};
 
-/// How far the target would be ahead, round the cycle, if the counter went on as time does.
+/// How far the target would be ahead, round the cycle, if the counter continued as time does.
 fn ahead(cycle: u32, target: u32, counter: u32) -> u32
     requires counter { counter < cycle }
     requires target { target < cycle }

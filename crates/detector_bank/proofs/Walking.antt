@@ -84,7 +84,7 @@ walked-all old now ds round k past w ps j is h = record {
       (w.done ps j i p d is h (omega (arith, past, low)) low);
 }
 
--- what stands for a detector past the end
+-- what represents a detector past the end
 pub no-detector_state : DetectorState
 no-detector_state = record { watch = record { on = false; last_pulse = 0; last_on = 0; last_inactive = 0; last_past_delay = 0; most = 0; rounds = []; edges = [] }; next = 0; calls = false }
 

@@ -1,4 +1,4 @@
--- What is told of a field file: the text of its result, or its first fault.
+-- What is reported of a field file: the text of its result, or its first fault.
 use Rattle.std.specs.Prelude.{ℕ, suc, ◌≡◌, ◌↔◌, ◌+◌, List, [], ◌∷◌, ◌++◌, length, codes, Option, Some, None, option_map}
 use Rattle.serde_json.specs.Data.{Data}
 use Rattle.scenario_data.specs.declared.refusal.Refusal.{Refusal}

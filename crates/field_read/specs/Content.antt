@@ -1,4 +1,4 @@
--- What a field file says: at each name what stands there, or else the default.
+-- What a field file says: at each name what is there, or else the default.
 use Rattle.std.specs.Prelude.{ℕ, List, map, Option, option_map}
 use Rattle.serde_json.specs.Data.{Data}
 use Rattle.serde_json.specs.Find.{get}
@@ -45,7 +45,7 @@ field_content f = record {
   respond = option_map respond_content f.respond;
 }
 
--- what the objects say; the numbers of rounds and cabinets bound what may stand there, not what it says
+-- what the objects say; the numbers of rounds and cabinets bound what is allowed there, not what it says
 abbrev pub detector_of : ℕ → Data → Detector
 detector_of cabinets d = record {
   cabinet = number_at (cabinet_number cabinets) d;

@@ -23,7 +23,7 @@ pub(crate) struct Traffic {
     pub respond: Option<Respond>,
 }
 
-/// What stands beside a scenario with so many rounds and cabinets.
+/// What is next to a scenario with that many rounds and cabinets.
 pub(crate) fn traffic_in(
     alloc: Global,
     object: &Value,

@@ -141,7 +141,7 @@ pub fn end_of_green()
     ensures { told_of end_of_green_history ≡ end_of_green_told }
 {}
 
-/// A clock that loses a tick: local zero finds the target one tick behind.
+/// A clock that loses a tick: local zero finds the target one tick after.
 pub fn loses()
     ensures { told_of loses_history ≡ loses_told }
 {}
@@ -183,7 +183,7 @@ pub fn mixed_sixth()
     ensures { told_of mixed_sixth_history ≡ mixed_sixth_told }
 {}
 
-/// A run in which the counter stands and skips.
+/// A run in which the counter waits and skips.
 pub fn stands_and_skips()
     ensures { told_of stands_and_skips_history ≡ stands_and_skips_told }
 {}

@@ -1,5 +1,5 @@
--- A round over the lines of a cabinet: what arrives of the frames that are sent in it, and what the lines hold after it. What was sent in
--- the rounds before has the newest first, and the round comes right behind these.
+-- A round over the lines of a cabinet: what arrives of the frames that are sent in it, and what the lines hold after
+-- it. What was sent in the rounds before has the newest first, and the round comes right after these.
 use Rattle.std.specs.Prelude.{ℕ, ◌≡◌, ◌+◌, List, ◌∷◌, length}
 use Rattle.sig_types.specs.declared.notes.Way.TheVariants.{Poll, Load, Prio}
 use Rattle.sig_types.specs.Items.{texts_of}

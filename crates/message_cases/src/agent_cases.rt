@@ -122,7 +122,7 @@ const TOLD: [(StageAnswer, i32, i32); 5] = [
     (StageAnswer::Refused(Broken { rule: 10, row: 3 }), 5, 2),
 ];
 
-/// Each answer of the stage is told by its status and index, with the bindings of the request.
+/// Each answer of the stage is determined by its status and index, with the bindings of the request.
 fn are_told(rt: &impl Abort, request: &[u8], rows: &[(StageAnswer, i32, i32)]) -> Result<(), Fail> {
     let sent = read(request).ok_or("no message")?;
     for (stage, status, index) in rows {

@@ -8,11 +8,11 @@ use Rattle.offset_laws.specs.Stepping.{KeepsLimits, to_zero, StepsOn, ZeroComes}
 use Rattle.offset_laws.proofs.Steps.{later-within, later-end}
 use Rattle.offset_laws.proofs.Looks.{other, stands-stood, stands-moved, begins-at}
 
--- where the step stands, a stand was left in the cycle
+-- where the step waits, a wait was left in the cycle
 abbrev HasStand : Correction → List ℕ → ℕ → ℕ → Type 0
 HasStand k past c d = d ≡ c → stands past < most_a_cycle k
 
--- a step, and what was left to stand
+-- a step, and what was left to wait
 pub record Goes (k : Correction) (past : List ℕ) (c d : ℕ) : Type 0 where
   pub how : Steps k.cycle k.window c d
   pub room : HasStand k past c d

@@ -24,7 +24,7 @@ pub record StepsOn (k : Correction) (past : List ℕ) (target : ℕ) : Type 0 wh
   pub keeps : KeepsLimits k (next_counter k past target ∷ past)
   pub nearer : (begins_cycle (next_counter k past target ∷ past) ≡ true) ⊎ (to_zero k (next_counter k past target ∷ past) < to_zero k past)
 
--- a local zero comes within so many ticks
+-- a local zero comes within that many ticks
 pub record ZeroComes (k : Correction) (past : List ℕ) (targets : ℕ → ℕ) (most : ℕ) : Type 0 where
   pub ticks : ℕ
   pub some : 1 ≤ ticks

@@ -26,8 +26,8 @@ pub fn held_as_computed()
     ensures early_on_target { target_drifted 900 899 (one_step 239 Gains) 0 ≡ 0 }
 {}
 
-/// Dwelling cannot follow a clock that gains: local zero then comes one tick late, and to dwell takes the counter only further
-/// behind, 100 ticks in the next cycle.
+/// Dwelling cannot follow a clock that gains: local zero then comes one tick late, and to dwell takes the counter only
+/// further after, 100 ticks in the next cycle.
 pub fn gains_are_not_dwelt_away()
     ensures late { begins_cycle (drifted dwelling_90 900 (one_step 239 Gains) 0 (0 ∷ [])) ≡ true }
     ensures by_one { target_drifted 900 900 (one_step 239 Gains) 0 ≡ 1 }

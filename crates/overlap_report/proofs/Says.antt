@@ -1,4 +1,4 @@
--- What was seen of a cabinet of a trace, and what is to be told of its overlaps.
+-- What was seen of a cabinet of a trace, and what is to be reported of its overlaps.
 use Rattle.std.proofs.Common.{◌≡◌, ◌≢◌, inl, inr, ℕ, ◌+◌, Bool, List, [], ◌∷◌, length, Result, Ok, Err, refl, sym, ◌∙◌, ap, subst, arith}
 use Rattle.sig_types.specs.declared.frame.Frame.{Frame}
 use Rattle.sig_tables.specs.declared.tables.Tables.{Tables}
@@ -130,7 +130,7 @@ fault-not-ok f r e ok = differ f (sym e ∙ ok)
     differ : (g : OverlapFault) → refused g ≢ Ok tt
     differ g = grind arith
 
--- and one fault is told
+-- and one fault is reported
 pub one-fault : (f g : OverlapFault) (r : Result (Unit {0}) OverlapFault) → r ≡ Err f → r ≡ Err g → f ≡ g
 one-fault f g r e d = same (sym e ∙ d)
   where

@@ -64,7 +64,7 @@ any-frames has_line (f ∷ before) ticks e =
 pub history-frames : (h : History) (has_line : Frame → Frame → Bool) (ticks : ℕ) → ticks + 1 ≡ length (frames h) → AreFrames (frames_written has_line (frames h)) ticks
 history-frames h has_line ticks e = any-frames has_line (frames h) ticks e
 
--- the downloads that are told of
+-- the downloads that are reported of
 abbrev loads_in : List CabinetTold → ℕ
 loads_in [] = 0
 loads_in (Shows tick shown ∷ told) = loads_in told

@@ -83,9 +83,9 @@ pub fn sides_hold()
     ensures { (t : Tables) → Consistent t → SidesHold t }
 {}
 
-/// Each sequence in use has each enabled phase of a ring once in that ring and nothing else; the phases of a side stand
-/// together in it, and the sides have one order in both rings (NTCIP 1202, sequences). The sequences are 1 to 16; in use
-/// are the first, and each that has phases.
+/// Each sequence in use has each enabled phase of a ring once in that ring and nothing else; the phases of a side are
+/// together in it, and the sides have one order in both rings (NTCIP 1202, sequences). The sequences are 1 to 16; in
+/// use are the first, and each that has phases.
 pub fn sequences_serve()
     ensures { (t : Tables) → Consistent t → (s : ℕ) → is_phase s ≡ true → is_used t s ≡ true → SequenceServes t s }
 {}

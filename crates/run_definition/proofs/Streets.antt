@@ -67,7 +67,7 @@ each-late s cab first (t ∷ ts) (j ∷ js) low =
     (other-acts cab first t.cabinet_history (round_acts s first t j) (λ e. absurd (omega (arith, low, e))))
     ∙ each-late s cab (first + 1) ts js (omega (arith, low))
 
--- what a cabinet has come to among these, and what lines told of it
+-- what a cabinet has reached among these, and what lines told of it
 abbrev Found : ℕ → CabinetState → ℕ → List CabinetState → List Line → Type 0
 Found cab t first later lines = (u : CabinetState) × HasComeTo cab u first later × Tells cab lines t u
 
@@ -155,7 +155,7 @@ opening-found s cab first c (d ∷ cabinets) (inr later) =
 abbrev pub drift_in : CabinetContent → Drift
 drift_in c = record { gain = c.gain; lose = c.lose }
 
--- what a cabinet has come to by the end, and that the lines of the run tell it
+-- what a cabinet has reached by the end, and that the lines of the run tell it
 pub record Ended (s : ScenarioContent) (journals : List (List (List ℕ))) (cab : ℕ) (c : CabinetContent) : Type 0 where
   pub end : CabinetState
   pub own : end.cabinet ≡ c

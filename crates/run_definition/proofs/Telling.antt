@@ -43,7 +43,7 @@ told-append cab (J c runs ∷ lines) more = told-append cab lines more
 told-append cab (A c pass reply ∷ lines) more = told-append cab lines more
 told-append cab (Z rounds ∷ lines) more = told-append cab lines more
 
--- lines that tell nothing of a cabinet, before others and behind them
+-- lines that tell nothing of a cabinet, before others and after them
 pub told-behind : (cab : ℕ) (lines more : List Line) → told_in cab lines ≡ [] → told_in cab (lines ++ more) ≡ told_in cab more
 told-behind cab lines more e = told-append cab lines more ∙ ap (λ (x : List CabinetTold). x ++ told_in cab more) e
 

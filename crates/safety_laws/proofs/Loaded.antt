@@ -15,13 +15,13 @@ use Rattle.safety_laws.specs.Whole.{downloads, Whole}
 use Rattle.safety_laws.specs.Written.{shown_by}
 use Rattle.safety_laws.specs.CabinetTold.{CabinetTold, Shows, Loads, told_in, frame_told, told_of, history_told}
 
--- the downloads alone, counted
+-- only the downloads, counted
 abbrev loads : List CabinetTold → ℕ
 loads [] = 0
 loads (Shows tick shown ∷ rest) = loads rest
 loads (Loads version ∷ rest) = loads rest + 1
 
--- after so many downloads each frame has the number of those before it, and each download its own
+-- after that many downloads each frame has the number of those before it, and each download its own
 abbrev Counts : ℕ → List CabinetTold → Type 0
 Counts n [] = Unit {0}
 Counts n (Shows tick shown ∷ rest) = (shown.version ≡ n) × Counts n rest

@@ -15,7 +15,7 @@ use Rattle.safety_laws.proofs.Versions.{versions}
 use Rattle.safety_laws.proofs.History.{history-safe}
 use Rattle.safety_laws.specs.CabinetTold.{CabinetTold, Shows, Loads, told_in, frame_told, told_of, history_told}
 
--- the frames alone
+-- only the frames
 abbrev shown_in : List CabinetTold → List (ℕ × Indications)
 shown_in [] = []
 shown_in (Shows tick shown ∷ rest) = (tick, shown) ∷ shown_in rest

@@ -6,12 +6,12 @@ use Rattle.json.specs.declared.token.Token.TheVariants.{BeginArray, BeginObject,
 use Rattle.serde_json.specs.Data.{Data, null, boolean, number, string, array, object}
 use Rattle.scenario_cut.specs.Judging.{IsNoList}
 
--- a value is no number
+-- a value is not a number
 abbrev pub IsNoNumber : Data → Type 0
 IsNoNumber (number n) = ⊥
 IsNoNumber _ = Unit {0}
 
--- a value is no object
+-- a value is not an object
 abbrev pub IsNoObject : Data → Type 0
 IsNoObject (object ms) = ⊥
 IsNoObject _ = Unit {0}

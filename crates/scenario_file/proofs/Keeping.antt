@@ -15,7 +15,7 @@ pub some-passed : (P : Kept → Type 0) (b : Bool) (o : Option Kept) → IfSome 
 some-passed P b None over holds = tt
 some-passed P b (Some kept) over holds = subst P (sym over.1) (holds over.0)
 
--- ---- null for what was passed over
+-- ---- null for what was skipped
 
 sees : (passed : List ℕ → Data) (name : List ℕ) (d : Data) → as_null d ≡ None → seen passed name d ≡ d
 sees passed name null whole = absurd (cc)

@@ -26,7 +26,7 @@ abbrev pub flag_then : List ℕ → Option Bool → Members → Members
 flag_then name None ms = ms
 flag_then name (Some b) ms = member name (boolean b) ms
 
--- what stands at the names of an input, in the order of their bytes
+-- what is at the names of an input, in the order of their bytes
 abbrev pub plain_members : Plain → Members
 plain_members p =
     number_then (codes "cabinet") p.cabinet
@@ -39,7 +39,7 @@ before_round (Veh phase on) ms = member (codes "on") (boolean on) ms
 before_round (Ped phase) ms = member (codes "ped") (number (unsigned phase)) ms
 before_round (Preempt n on) ms = member (codes "on") (boolean on) (member (codes "preempt") (number (unsigned n)) ms)
 
--- what an input has behind its round
+-- what an input has after its round
 abbrev pub behind_round : Field → Members
 behind_round (Veh phase on) = member (codes "veh") (number (unsigned phase)) no_members
 behind_round (Ped phase) = no_members

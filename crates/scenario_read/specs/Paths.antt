@@ -1,4 +1,4 @@
--- Where a value stands in a scenario: names of members and places in lists, from the top; and how that is written.
+-- Where a value is in a scenario: names of members and places in lists, from the top; and how that is written.
 use Rattle.std.specs.Prelude.{ℕ, List, [], ◌∷◌, ◌++◌, codes, decimal}
 
 -- places are counted from 0

@@ -44,7 +44,7 @@ fn octet_at(list: &Value, place: usize) -> u8
     }
 }
 
-/// The cell that a word and the numbers behind it name.
+/// The cell that a word and the numbers after it name.
 fn named_cell(word: &str, list: &Value) -> Option<Cell>
     ensures { result ≡ named_cell word.now (view list.now) }
 {

@@ -1,4 +1,4 @@
--- The lines of a round of a session, as they are told, are those of the round in the order of a trace.
+-- The lines of a round of a session, as they are reported, are those of the round in the order of a trace.
 use Rattle.std.proofs.Common.{◌≡◌, ◌≢◌, ◌∙◌, ◌+◌, ◌==◌, ℕ, true, false, List, [], ◌∷◌, ◌++◌, length, map, filter, refl, sym, ap, subst, append-nil, append_assoc, eq-eqb, ne_eqb}
 use Rattle.std.specs.List.{AllByRecursion}
 use Rattle.sig_tables.specs.Decide.{last_frame_of}
@@ -34,7 +34,7 @@ lines-append cab h (act ∷ acts) more =
 
 -- ---- steps one after another
 
--- the lines of steps behind others
+-- the lines of steps after others
 abbrev pub steps_lines : ScenarioContent → List CabinetState → List Step → List Step → List Line
 steps_lines s ts done [] = []
 steps_lines s ts done (step ∷ steps) = each_step s 1 ts done step ++ steps_lines s ts (done ++ step ∷ []) steps
@@ -95,7 +95,7 @@ notes-each s first (t ∷ ts) = ap (λ (r : List Line). notes_of s first t ++ r)
 
 -- ---- what the lines of a round are
 
--- some lines as a part has them: those of the street, those of a cabinet's journal, and what else is told of the
+-- some lines as a part has them: those of the street, those of a cabinet's journal, and what else is reported of the
 -- cabinet
 pub record Seen (lines street journal told : List Line) (cab : ℕ) : Type 0 where
   pub of_street : filter is_of_street lines ≡ street
@@ -179,7 +179,7 @@ journals-seen s steps cab t ts come =
 
 -- ---- a round
 
--- what is told in a round, but for its number
+-- what is reported in a round, but for its number
 abbrev pub body_lines : ScenarioContent → List CabinetState → List Step → List Line
 body_lines s ts steps = (notes_lines s 1 ts ++ each_begin s 1 ts) ++ (steps_lines s ts [] steps ++ each_journal s 1 ts steps)
 

@@ -1,4 +1,4 @@
--- What is put into a cell that it fits leaves in each cell what may stand in it.
+-- What is put into a cell that it fits leaves in each cell what is allowed in it.
 use Rattle.std.proofs.Common.{◌≡◌, ◌≢◌, inl, inr, ℕ, ◌≤◌, ◌-◌, Bool, true, false, ◌&&◌, if◌then◌else◌, List, [], ◌∷◌, get_or, set, refl, sym, ◌∙◌, ap, subst, arith, Result, Ok, Err}
 use Rattle.std.specs.Prelude.{is_ok}
 use Rattle.std.proofs.lemmas.Bool.{le-leb, false≢true}
@@ -48,7 +48,7 @@ phase-put Has r c v first last new old = elim (leb_tells c 10) [
   ]
 ]
 
--- a column holds what may stand there where the column that was put does, and the others are as they were
+-- a column holds what is allowed there where the column that was put does, and the others are as they were
 column-fits : (allowed : ℕ → Allowed) (old new : ℕ → Content) (c d : ℕ) → (d ≢ c → new d ≡ old d) → fits_in (allowed c) (new c) ≡ Ok tt
     → fits_in (allowed d) (old d) ≡ Ok tt → fits_in (allowed d) (new d) ≡ Ok tt
 column-fits allowed old new c d kept put stood = elim (eqb_tells d c) [
@@ -186,7 +186,7 @@ put-fits t put all = split (is_cell put.0) (is_ok (fits_of put.0 put.1)) refl re
     split true false there fits = all
     split false fits there f = all
 
--- cells put in order leave in each cell what may stand in it
+-- cells put in order leave in each cell what is allowed in it
 pub cells-fit : (t : Tables) (puts : List (Cell × Content)) → EachFits t → EachFits (with_cells t puts)
 cells-fit t [] all = all
 cells-fit t (put ∷ puts) all = cells-fit (with_put t put) puts (put-fits t put all)

@@ -65,14 +65,15 @@ judged t in_force flashing answer = unless_broken (first_broken t in_force flash
 abbrev pub begin_answer : ℕ → ℕ → StageAnswer
 begin_answer kept id = if id == kept then Repeated else if nat_lt id kept then WrongToken else Staged
 
--- to a part, where the stage stands so and has taken so many: one that was taken, the next one while it is open, or another
+-- to a part, where the stage is so and has taken that many: one that was taken, the next one while it is open, or
+-- another
 abbrev pub part_answer : StageState → ℕ → ℕ → StageAnswer
 part_answer stands taken number =
     if nat_le 1 number && nat_le number taken then Repeated
     else if is_open stands && number == taken + 1 then Staged
     else WrongPart (taken + 1)
 
--- to a verify of all parts or not, with the part that is due and the answer by the rules
+-- to a verify of all parts or not, with the expected part and the answer by the rules
 abbrev pub verify_answer : StageState → Bool → ℕ → StageAnswer → StageAnswer
 verify_answer Checked complete due by_rules = Repeated
 verify_answer Done complete due by_rules = Repeated
@@ -84,7 +85,8 @@ finish_answer Done by_rules = Repeated
 finish_answer Checked by_rules = by_rules
 finish_answer _ by_rules = NotVerified
 
--- the answer to a call after these: a part, a verify or a finish under another id than the kept one has the wrong token
+-- the answer to a call after these: a part, a verify or a finish under a different id from the kept one has the wrong
+-- token
 abbrev pub answer_to : List Answered → Call → StageAnswer
 answer_to past (Begin id in_force) = begin_answer (kept past) id
 answer_to past (Part id number cells) =

@@ -1,4 +1,4 @@
--- From what an answer to `check` tells to the answer that an input is due.
+-- From what an answer to `check` tells to the answer expected for an input.
 use Rattle.std.proofs.Common.{◌≡◌, ◌≤◌, ◌<◌, ◌⊎◌, ◌∙◌, inl, inr, ℕ, List, Option, Some, None, IfSome, drop, length, subst, refl, sym, ap, arith}
 use Rattle.trace_check.specs.declared.faults.TraceFault.{TraceFault}
 use Rattle.trace_laws.specs.Traces.{IsTrace, IsCheckable}

@@ -14,7 +14,7 @@ pub record IsCurrent (past : Past) : Type 0 where
   pub target : (frame_seen past).target ≡ 0
   pub on : (frame_seen past).on ≡ on_of past.tables (frame_seen past).veh 1 ∷ on_of past.tables (frame_seen past).veh 2 ∷ []
 
--- the cabinet runs free and goes on to, something is on in each ring, and the last frame comes again
+-- the cabinet runs free and continues to, something is on in each ring, and the last frame is repeated
 pub record Repeats (past : Past) : Type 0 where
   pub was : (frame_seen past).mode ≡ Free
   pub mode : mode_seen past ≡ Free

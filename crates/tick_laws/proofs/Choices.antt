@@ -26,7 +26,7 @@ pub not-chosen : {A : Type 0} (b : Bool) (x y : A) → b ≡ false → (if b the
 not-chosen false x y e = refl
 not-chosen true x y e = absurd (false≢true (sym e))
 
--- a choice of two is no third
+-- a choice of two is not a third
 pub neither : {A : Type 0} (b : Bool) (x y c : A) → (x ≡ c → ⊥) → (y ≡ c → ⊥) → (if b then x else y) ≡ c → ⊥
 neither true x y c f g e = f e
 neither false x y c f g e = g e

@@ -1,4 +1,4 @@
--- What is on stands together: the fact that is kept from tick to tick.
+-- What is on is together: the fact that is kept from tick to tick.
 use Rattle.std.proofs.Common.{◌≡◌, ◌⊎◌, inl, inr, ℕ, Bool, true, false, not, ◌&&◌, if◌then◌else◌, ◌==◌, List, refl, sym, ◌∙◌, subst}
 use Rattle.std.proofs.lemmas.Bool.{cases_Bool, and_parts, and_from, false≢true, both_ways, not-true}
 use Rattle.std.proofs.lemmas.Bool.Decides.{Decides-eqb}

@@ -31,7 +31,7 @@ use Rattle.tick_laws.proofs.Search.{vehicle-found, pedestrian-found}
 use Rattle.tick_laws.proofs.Choices.{leaves, differs}
 use Rattle.tick_laws.proofs.Next.{next-colour, next-signal, crossing_seen, walk_seen, signal_left}
 
--- ---- a call stands until it is served
+-- ---- a call remains until it is served
 
 unserved : (s b : Bool) → (s || b) ≡ false → (s ≡ false) × (b ≡ false)
 unserved true b h = absurd (false≢true (sym h))
@@ -99,7 +99,7 @@ vehicle-served past p ph green =
     (frame-same past.tables past.moments)
     ∙ rw green refl
 
--- ---- a call that stands is demand
+-- ---- a call that remains is demand
 
 -- a tick wants each enabled Red phase that it sees called, but for one that the pattern omits
 in-demand : (pattern : Option ℕ) (t : Tables) (f : Frame) (vehicle pedestrian detectors : List ℕ) (p : ℕ) → is_phase p ≡ true

@@ -35,7 +35,7 @@ fn limits(mode: u8, dwell: u32, add: u32, subtract: u32) -> Limits
     }
 }
 
-/// Lets a count run on for so many ticks, from a frame with this target.
+/// Lets a count run on for that many ticks, from a frame with this target.
 fn run(count: &mut Count, plan: &Plan, limits: Limits, target: u32, ticks: u32)
     requires add { 0 < limits.add }
     requires subtract { 0 < limits.subtract }
@@ -87,7 +87,7 @@ fn comes_onto_the_offset_as_worked_by_hand(rt: HostRuntime) {
         (add_only, 880, 38, 19),
         (add_only, 880, 39, 19),
         (add_only, 880, 40, 20),
-        // a midnight has moved the target: two cycles, of 100 stands each
+        // a midnight has moved the target: two cycles, of 100 waits each
         (midnight, 500, 799, 699),
         (midnight, 500, 800, 0),
         (midnight, 500, 900, 0),

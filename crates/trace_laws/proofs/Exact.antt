@@ -1,4 +1,4 @@
--- A text with a fault is no trace: by what it is for a line's text to tell the line.
+-- A text with a fault is not a trace: by what it is for a line's text to tell the line.
 use Rattle.std.proofs.Common.{◌≡◌, ◌∙◌, ℕ, suc, List, [], ◌∷◌, ◌++◌, length, refl, sym, ap, subst, append_assoc}
 use Rattle.trace_text.specs.declared.lines.Line.{Line}
 use Rattle.trace_text.specs.Line.{line_text}
@@ -9,7 +9,7 @@ use Rattle.trace_laws.specs.Faults.{first_piece}
 use Rattle.trace_laws.specs.Laws.{LinesTell}
 use Rattle.trace_laws.specs.Script.{Script, Ends, Says, Hears, Goes, Refuses, Stops, Lacking, Beyond, Unread, Other, FaultIn}
 
--- what is refused does not go on
+-- what is refused does not continue
 refused-not-goes : (a b : Script) (line : Line) (more : List Line) (rule : ℕ) → Refuses a line rule → Goes a (line ∷ more) b → ⊥
 refused-not-goes Ends b line more rule refuses go = go
 refused-not-goes (Says due rest) b line more rule refuses go = refuses.0 go.0

@@ -52,7 +52,7 @@ fronts-proper proper s before run front =
     let (rest, (journals, are, is)) = front in
     are-first before rest (subst (λ (x : List Line). AreLines x) (sym is) (proper s run journals are).1)
 
--- ---- faults behind the first line
+-- ---- faults after the first line
 
 rest-determined : Laws → (s : ScenarioContent) (text : List ℕ) (n rule m also : ℕ) → Runnable s → FaultOf s text n rule → FaultOf s text m also → (n ≡ m) × (rule ≡ also)
 unfolding fault-in
@@ -100,7 +100,7 @@ unread-one laws text m q few some none (NoFirst t short also nothing) = (refl, r
 unread-one laws text m q few some none (NoScenario line left short is untold) = absurd (no-line-first line left is none)
 unread-one laws text m q few some none (Later s line left n rule short opens f) = absurd (no-line-first line left (opens-line laws line s opens) none)
 
--- the same first line, and the same behind it
+-- the same first line, and the same after it
 same-first : (text : List ℕ) (first line : Line) (behind left : List ℕ) → IsLine first → IsLine line → text ≡ line_text first ++ behind → text ≡ line_text line ++ left
     → (first ≡ line) × (behind ≡ left)
 same-first text first line behind left is also e f = lines-tell.told first line behind left is also (sym e ∙ f)

@@ -26,8 +26,8 @@ use scenario_checked::scenarios_run;
 use scenario_read::bytes_have_one_answer;
 pub use seen::Seen;
 
-/// Behind the first lines of a run one line may follow, but for the journal of a cabinet, of which the line's kind and cabinet are
-/// determined.
+/// After the first lines of a run one line may follow, but for the journal of a cabinet, of which the line's kind and
+/// cabinet are determined.
 pub fn due_is_determined()
     ensures { DueIsDetermined }
 {}
@@ -37,7 +37,7 @@ pub fn rounds_are_fronts()
     ensures { RoundsAreFronts }
 {}
 
-/// Behind a whole run nothing follows.
+/// After a whole run nothing follows.
 pub fn nothing_follows()
     ensures { NothingFollows }
 {}

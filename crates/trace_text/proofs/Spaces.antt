@@ -211,7 +211,7 @@ nonempty (word ∷ words) k e = omega arith
 some_words : (l : Line) → 0 < length (line_words l)
 some_words l = nonempty (line_words l) (kind l) (first_word l)
 
--- the words of a line are what stands between the spaces of its text
+-- the words of a line are what is between the spaces of its text
 pub line_split : (l : Line) → IsWorded l → slice_split (λ b. b == 32) (unended (line_words l)) ≡ line_words l
 line_split l is = split_words (line_words l) (some_words l) (line_lacks l is)
 
