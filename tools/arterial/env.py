@@ -119,8 +119,9 @@ class StreetEnv:
             spaces.switches(many) if actions == "calls" else spaces.choices([len(self.patterns)] * self.cabinets)
         )
         self._commands = self._messages()
-        self._random, self._trace = random.Random(), None
+        self._random = random.Random()
         self._run: Queues | Sumo | None = None
+        self._trace: Trace | None = None
         self._finalizer: Any = None
 
     def _setup(
