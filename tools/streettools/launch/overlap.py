@@ -7,7 +7,7 @@ import json
 import re
 import sys
 from collections.abc import Iterator
-from typing import IO[bytes], NamedTuple
+from typing import IO, NamedTuple
 
 from streettools.shared.saying import say
 from streettools.shared.status import Status
