@@ -12,6 +12,7 @@ from typing import Any
 from ..shared import files, saying
 from ..shared.commandline import Parser, add_program, add_renamed, number
 from ..shared.fault import Fault
+from ..shared.given import content_of
 from ..shared.program import Died, NoProgram, answering, trace_of
 from ..shared.session import Answer
 from ..shared.session_record import SessionRecord
@@ -118,8 +119,9 @@ def parser() -> argparse.ArgumentParser:
         "--port", type=number(0, 65_535), default=10_161, help="the UDP port; 0 for a free one (default: 10161)"
     )
     words.add_argument(
-        "--scenario", metavar="FILE", help="the scenario to run (default: one standard cabinet, rounds of 1 s)"
-    )
+        "--scenario", metavar="FILE",
+        help="the scenario to run; - is standard input (default: one standard cabinet, rounds of 1 s)",
+    )  # fmt: skip
     words.add_argument(
         "--cabinet", type=number(1, 64), default=1, metavar="N",
         help="which cabinet of the scenario answers (default: 1)",
@@ -138,7 +140,7 @@ def parser() -> argparse.ArgumentParser:
 
 def scenario_of(program: pathlib.Path, name: str | None) -> dict[str, Any]:
     """Returns the scenario in a file, once the program has taken it."""
-    text = pathlib.Path(name).read_bytes() if name else USUAL
+    text = content_of(name) if name else USUAL
     trace_of(program, text, out=subprocess.DEVNULL)
     return json.loads(text)
 

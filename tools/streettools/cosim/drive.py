@@ -62,7 +62,7 @@ def read_config(path: pathlib.Path) -> Config:
         raise Fault(f"{path}: {fault.strerror or fault}", Status.FILE) from None
     except xml.ParseError as fault:
         raise Fault(f"{path}: no XML: {fault}") from None
-    values = {it.tag: it.get("value") for it in root.iter() if it.get("value") is not None}
+    values = {it.tag: it.attrib["value"] for it in root.iter() if "value" in it.attrib}
     network = values.get("net-file") or values.get("net") or values.get("n")
     if not network:
         raise Fault(f"{path}: no configuration of SUMO: net-file is missing")

@@ -8,7 +8,7 @@ import math
 import pathlib
 import time
 from collections.abc import Callable, Iterator
-from dataclasses import dataclass
+from dataclasses import dataclass, field
 from typing import Any
 
 from ..shared.fault import Fault
@@ -46,6 +46,8 @@ class Given:
     seed: int | None = None
     priority: bool = True
     warm: float = 0.0
+    names: dict[int, str] = field(default_factory=dict)
+    """What cabinets are called, as far as they have names."""
 
     def ticks(self) -> int:
         """Returns the ticks of a step."""
@@ -101,7 +103,7 @@ class Loop:
         names = [it.id for it in street.signals]
         self.signals = Signals(street, network)
         self.halts = Halts(network, names, sumo, (it.lane for it in areas.places.values()))
-        self.watch = Watch(network, names, yielding_in(street, given.scenario), sumo)
+        self.watch = Watch(network, names, yielding_in(street, network, given.scenario), sumo)
         self.detectors = Detectors(street, areas, sumo, given.step)
         self.buttons = Buttons(street, network, sumo)
         self.priority = Priority(street, network, given.scenario.get("community", "public"))

@@ -91,10 +91,11 @@ class Routes:
                 parts[0] = Part(max(parts[0].metres - start, 0.0), parts[0].speed)
             else:
                 del parts[0]
-            yield Way(self.turns[edge, end], tuple(edges[first : k + 1]), entered, exits[k], tuple(parts))
-            if exits[k] is None:
+            left = exits[k]
+            yield Way(self.turns[edge, end], tuple(edges[first : k + 1]), entered, left, tuple(parts))
+            if left is None:
                 return
-            first, entered = k + 1, exits[k]
+            first, entered = k + 1, left
 
 
 def exits_of(text: str | None, count: int, begin: float) -> list[float | None]:

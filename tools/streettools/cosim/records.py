@@ -37,7 +37,7 @@ class Movement(NamedTuple):
 
     def phases(self) -> tuple[int, ...]:
         """Returns the phases under which the movement may have way."""
-        return self.parents or (self.phase,)
+        return self.parents or (() if self.phase is None else (self.phase,))
 
 
 class Passage(NamedTuple):
@@ -143,7 +143,8 @@ def read(document: dict[str, Any], folder: pathlib.Path) -> Study:
         return Trip(vehicle, route, Kind(kind), tuple(Passage(*it) for it in passages), *rest)
 
     def movement(row: list[Any]) -> Movement:
-        return Movement(*row[:3], tuple(row[3]))
+        cabinet, name, phase, parents = row
+        return Movement(cabinet, name, phase, tuple(parents))
 
     return Study(
         cabinets=document["cabinets"],

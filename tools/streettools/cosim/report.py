@@ -4,7 +4,8 @@
 """
 
 import json
-from collections.abc import Iterable
+from collections.abc import Iterable, Mapping
+from dataclasses import dataclass, field
 from typing import Any
 
 from .movements import Count, Greens, RouteCount, counts, is_of_persons, kinds, routes
@@ -14,6 +15,14 @@ from .records import Kind, Study
 SERVICE = ((10, "A"), (20, "B"), (35, "C"), (55, "D"), (80, "E"))
 """Level of service of a signalized intersection by its mean control delay (Highway Capacity Manual)."""
 Value = dict[str, Any]
+
+
+@dataclass(frozen=True)
+class More:
+    """What a study doesn't have: the names of cabinets, and volume divided by capacity of movements."""
+
+    names: Mapping[int, str] = field(default_factory=dict)
+    ratios: Mapping[tuple[int, str], float] = field(default_factory=dict)
 
 
 def greens_in(study: Study) -> Greens:
@@ -81,25 +90,31 @@ def route_value(count: RouteCount) -> Value:
     }
 
 
-def collect(study: Study, greens: Greens | None = None) -> Value:
+def collect(study: Study, greens: Greens | None = None, more: More | None = None) -> Value:
     """Returns the report; where no greens are given they come from the trace."""
+    more = more or More()
     found = counts(study, greens_in(study) if greens is None else greens)
     cabinets = {number: Count() for number in range(1, study.cabinets + 1)}
     moved, walked = [], []
     for it in study.movements:
         count = found[it.cabinet, it.name]
-        named = {"cabinet": it.cabinet, "movement": it.name, "phase": it.phase}
+        named: Value = {"cabinet": it.cabinet, "movement": it.name, "phase": it.phase}
         if is_of_persons(it):
             walked.append({**named, "persons": count.vehicles, "delay": share(count.delay, count.vehicles, 1)})
         else:
             cabinets[it.cabinet].add(count)
             moved.append(named | value_of(count))
+            if more.ratios:
+                moved[-1]["v_c"] = more.ratios.get((it.cabinet, it.name))
     return {
         "title": study.title,
         "seconds": study.seconds,
         "warm": study.warm,
         "kinds": [{"kind": str(kind)} | route_value(it) for kind, it in kinds(study).items()],
-        "cabinets": [{"cabinet": number} | cabinet_value(it) for number, it in cabinets.items()],
+        "cabinets": [
+            {"cabinet": number} | ({"name": more.names[number]} if number in more.names else {}) | cabinet_value(it)
+            for number, it in cabinets.items()
+        ],
         "movements": moved,
         "crossings": walked,
         "routes": [
@@ -118,6 +133,7 @@ COLUMNS = {
     "stops": "stops",
     "on_green": "on green",
     "green": "green",
+    "v_c": "v/c",
     "platoon_ratio": "ratio",
     "queue_mean": "queue",
     "queue_greatest": "greatest",
@@ -129,6 +145,8 @@ COLUMNS = {
 OF_CABINET = ("vehicles", "delay", "delay_95", "level", "stops", "on_green", "left", "split_failures")
 """The columns that a whole cabinet has: its movements have no green and no queue in common."""
 ROUTES = {"trips": "trips", "arrived": "arrived", "travel": "travel", "delay": "delay", "stops": "stops"}
+PLACED = ("cabinets", "movements", "crossings")
+"""The tables whose rows are at a cabinet."""
 SHOWN = 12
 """So many routes are shown, those with the most trips first."""
 
@@ -151,14 +169,26 @@ def table(rows: Iterable[Value], heads: dict[str, str]) -> str:
     return "\n".join(lines) + "\n"
 
 
+def placed(value: Value) -> Value:
+    """Returns the report with the names of cabinets next to their numbers."""
+    names = {it["cabinet"]: f"{it['cabinet']} {it['name']}" for it in value["cabinets"] if "name" in it}
+    if not names:
+        return value
+    for key in PLACED:
+        value = value | {key: [it | {"cabinet": names.get(it["cabinet"], str(it["cabinet"]))} for it in value[key]]}
+    return value
+
+
 def text(value: Value) -> str:
     """Returns the report as tables for a terminal."""
+    value = placed(value)
     head = f"{value['title']}: " if value["title"] else ""
     counted = f", counted from {value['warm']:g} s on" if value["warm"] else ""
     parts = [f"{head}{value['seconds']:g} s{counted}; times in seconds\n"]
     parts.append(table(value["kinds"], {"kind": "who"} | ROUTES))
     parts.append(table(value["cabinets"], {"cabinet": "cabinet"} | {name: COLUMNS[name] for name in OF_CABINET}))
-    parts.append(table(value["movements"], {"cabinet": "cabinet", "movement": "movement", "phase": "phase"} | COLUMNS))
+    columns = {name: head for name, head in COLUMNS.items() if all(name in it for it in value["movements"])}
+    parts.append(table(value["movements"], {"cabinet": "cabinet", "movement": "movement", "phase": "phase"} | columns))
     if value["crossings"]:
         heads = {"cabinet": "cabinet", "movement": "crossing", "persons": "persons", "delay": "delay"}
         parts.append(table(value["crossings"], heads))

@@ -7,7 +7,9 @@ from collections.abc import Callable
 from dataclasses import dataclass
 from typing import Any
 
+from ..plan.suffixes import is_sheet
 from ..shared.fault import Fault
+from ..shared.given import content_of
 from ..shared.status import Status
 from . import drive, report
 from .checks import check
@@ -36,11 +38,13 @@ class Done:
 
 
 def read_scenario(path: pathlib.Path) -> dict[str, Any]:
-    """Reads a scenario; what is in it is for the program to judge."""
+    """Reads a scenario, or the one of a timing sheet; what is in it is for the program to judge."""
+    if is_sheet(str(path)):
+        from ..plan import taking  # takes a while
+
+        return taking.sheet(str(path)).scenario
     try:
-        found = json.loads(path.read_bytes())
-    except OSError as fault:
-        raise Fault(f"{path}: {fault.strerror}", Status.FILE) from None
+        found = json.loads(content_of(path))
     except (ValueError, RecursionError):
         raise Fault(f"{path}: scenario: not JSON") from None
     if not isinstance(found, dict) or not all(isinstance(found.get(name), int) for name in ("ticks", "rounds")):
@@ -70,7 +74,9 @@ def run(given: Given, program: pathlib.Path, out: pathlib.Path, progress: Callab
     told before SUMO starts; a run that ends before its time keeps what it has recorded."""
     sumo = drive.module()
     session = Session(program, given.for_session())
-    loop, fault, types = None, None, {}
+    loop: Loop | None = None
+    fault: Fault | None = None
+    types: dict[str, Any] = {}
     try:
         check(given.street, given.network, given.scenario)
         areas, added = built_areas(given.street, given.network, out)
@@ -85,12 +91,13 @@ def run(given: Given, program: pathlib.Path, out: pathlib.Path, progress: Callab
         except (Fault, KeyboardInterrupt) as raised:
             if loop is None or not loop.times.steps:
                 raise
-            is_fault = isinstance(raised, Fault)
-            fault = raised if is_fault else Fault("interrupted; what was recorded is kept", Status.INTERRUPTED)
+            stopped = Fault("interrupted; what was recorded is kept", Status.INTERRUPTED)
+            fault = raised if isinstance(raised, Fault) else stopped
         with contextlib.suppress(Fault):  # the record has what came before
             session.close()
     finally:
         session.end()
+    assert loop is not None
     return done(given, loop, session, types, out, fault)
 
 
@@ -116,7 +123,7 @@ def done(
         title=given.config.path.stem,
     )
     save(study, out / STUDY)
-    value = report.collect(study)
+    value = report.collect(study, more=report.More(given.names))
     (out / f"{REPORT}.json").write_text(report.json_text(value), encoding="utf-8")
     (out / f"{REPORT}.txt").write_text(report.text(value), encoding="utf-8")
     return Done(study, loop.times, fault, loop.priority.refusals)
@@ -146,7 +153,10 @@ def persons_of(crossed: list[Crossed]) -> list[Trip]:
     found = []
     for person, own in rows.items():
         passages = tuple(
-            Passage(*it[1:6], round(it.released - it.arrived, 2), it.stood, it.on_walk)
+            Passage(
+                it.cabinet, it.movement, it.phase, it.arrived, it.released, round(it.released - it.arrived, 2),
+                it.stood, it.on_walk,
+            )  # fmt: skip
             for it in own
             if it.released is not None
         )

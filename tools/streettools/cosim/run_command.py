@@ -2,6 +2,8 @@
 
 import argparse
 import pathlib
+from dataclasses import replace
+from typing import Any
 
 from ..shared.commandline import Parser, add_output, add_program, number
 from ..shared.fault import Fault
@@ -13,6 +15,8 @@ from . import network
 from .drive import read_config
 from .loop import Given
 from .mapping import read_map
+from .queues.given import read_street
+from .queues.keeping import called_in, keep_names
 from .run import REPORT, TRACE, Done, read_scenario, run
 
 EXAMPLES = """\
@@ -40,10 +44,10 @@ def parser() -> argparse.ArgumentParser:
         description="Runs SUMO under the cabinets of a scenario: its detectors, persons, buses and trains call them.",
         epilog=EXAMPLES,
     )
-    path = {"type": pathlib.Path, "required": True}
+    path: dict[str, Any] = {"type": pathlib.Path, "required": True}
     words.add_argument("--sumo", **path, metavar="CONFIG", help="SUMO's configuration (*.sumocfg)")
     words.add_argument("--map", **path, metavar="MAP", help="the map: which link has which phase")
-    words.add_argument("--scenario", **path, metavar="FILE", help="the cabinets")
+    words.add_argument("--scenario", **path, metavar="FILE", help="the cabinets: a scenario, or a timing sheet")
     add_output(words, "the folder for all results", **path, metavar="FOLDER")
     words.add_argument(
         "--step", type=step_of, default=0.1, metavar="S", help="a step of SUMO: 0.1 or 1 second (default: 0.1)"
@@ -72,7 +76,8 @@ def given_of(words: argparse.Namespace) -> Given:
     seconds = words.seconds or whole
     if words.warm >= seconds:
         raise Fault(f"--warm {words.warm} is not less than the {seconds:g} seconds of the run")
-    return Given(config, street, known, scenario, words.step, seconds, words.seed, not words.no_priority, words.warm)
+    given = Given(config, street, known, scenario, words.step, seconds, words.seed, not words.no_priority, words.warm)
+    return replace(given, names=called_in(read_street(words.scenario).names))
 
 
 def tell(done: Done, given: Given, out: pathlib.Path) -> None:
@@ -106,6 +111,7 @@ def main(words: list[str]) -> int:
     finally:
         if shown is not None:
             shown.close()
+    keep_names(out, read_street(given_words.scenario))
     tell(done, given, out)
     if done.fault is not None:
         raise done.fault

@@ -142,7 +142,7 @@ def run(
     path = out / "programs.add.xml"
     programs(given, controller).write(path, encoding="unicode")
     names = [it.id for it in given.street.signals]
-    watch = Watch(given.network, names, yielding_in(given.street, given.scenario), sumo)
+    watch = Watch(given.network, names, yielding_in(given.street, given.network, given.scenario), sumo)
     halts, times = Halts(given.network, names, sumo), Times()
     begun = time.perf_counter()
     with drive.running(sumo, Start(given.config, (path.resolve(),), given.step, given.seconds, given.seed, out)):

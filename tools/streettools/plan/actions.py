@@ -8,6 +8,7 @@ from dataclasses import replace
 from typing import Any
 
 from ..shared import files
+from ..shared.given import Unreadable, content_of
 from ..shared.progress import bar
 from ..shared.saying import say
 from ..shared.status import Status
@@ -23,6 +24,7 @@ from . import (
     names,
     sending,
     sources,
+    taking,
     toml_text,
     utdf_in,
     utdf_out,
@@ -33,10 +35,9 @@ from . import (
 )
 from ..shared.cells import cells_between, tables_of
 from .findings import Level, counted
-from .given import Unreadable
 from .reading import Street, street_of
 from .sources import Source
-from .taking import Refused, taken
+from .taking import Refused
 
 BOOK, PICTURES = ".xlsx", (".svg", ".png", ".pdf")
 
@@ -71,7 +72,7 @@ def write_sheet(path: str | None, sheet: dict[str, Any]) -> None:
 
 def to_day(words: argparse.Namespace) -> int:
     """Writes the scenario of a sheet on a day."""
-    street = taken(words.file, words.names).street
+    street = taking.sheet(words.file, words.names)
     day = days.day_of(words.date)
     plan = days.plan_of(street.day_plans, day)
     street.on(plan)
@@ -82,7 +83,7 @@ def to_day(words: argparse.Namespace) -> int:
 
 def to_scenario(words: argparse.Namespace) -> int:
     """Writes the scenario, or the field file, of a sheet; and its names."""
-    return write_street(words, taken(words.file, words.names).street)
+    return write_street(words, taking.sheet(words.file, words.names))
 
 
 def write_street(words: argparse.Namespace, street: Street) -> int:
@@ -107,7 +108,7 @@ def write_street(words: argparse.Namespace, street: Street) -> int:
 
 def to_sheet(words: argparse.Namespace) -> int:
     """Writes the sheet of a scenario."""
-    write_sheet(words.output, writing.sheet_of(taken(words.file, words.names).street))
+    write_sheet(words.output, writing.sheet_of(taking.sheet(words.file, words.names)))
     return Status.DONE
 
 
@@ -133,7 +134,8 @@ def do_fix(words: argparse.Namespace, source: Source, street: Street) -> None:
 
     changes: list[tuple[int, fix.Change]] = []
     for number, cabinet in enumerate(street.scenario["cabinets"], 1):
-        tables, known, made = tables_of(cabinet), street.names.intersection(number), []
+        tables, known = tables_of(cabinet), street.names.intersection(number)
+        made: list[fix.Change] = []
         for line in fix.mend(tables, known, made):
             print(f"{street.names.called(number)}: fix: {line}")
         changes += [(number, it) for it in made]
@@ -207,7 +209,7 @@ def do_explain(words: argparse.Namespace) -> int:
 
 def utdf_text_of(path: str) -> str:
     """Returns the text of a UTDF file; other octets than those of UTF-8, as in names, are replaced."""
-    return jsontext.decoded(sources.content_of(path).removeprefix(b"\xef\xbb\xbf"), replaced=True)
+    return jsontext.decoded(content_of(path).removeprefix(b"\xef\xbb\xbf"), replaced=True)
 
 
 def from_utdf(words: argparse.Namespace) -> int:
@@ -230,7 +232,7 @@ def from_walk(words: argparse.Namespace) -> int:
     walks = []
     for path in words.files:
         try:
-            walks.append(walk.read(jsontext.decoded(sources.content_of(path), replaced=True)))
+            walks.append(walk.read(jsontext.decoded(content_of(path), replaced=True)))
         except Unreadable as unreadable:
             raise Unreadable([replace(it, where=path) for it in unreadable.faults]) from None
     street = walk.street_of(walks, [pathlib.Path(path).stem for path in words.files])
@@ -259,7 +261,7 @@ def from_live(words: argparse.Namespace) -> int:
 
 def to_utdf(words: argparse.Namespace) -> int:
     """Writes a street as UTDF, with its volumes."""
-    street = taken(words.file, words.names).street
+    street = taking.sheet(words.file, words.names)
     found, notes = utdf_out.written(street, words.pattern, volumes_text.read(words.volumes) if words.volumes else None)
     tell(notes)
     write(words.output, found)
@@ -268,7 +270,7 @@ def to_utdf(words: argparse.Namespace) -> int:
 
 def do_loads(words: argparse.Namespace) -> int:
     """Writes the downloads from one plan to another as a scenario's loads; or sends them, or says what it would."""
-    old, new = (taken(path).street for path in (words.old, words.new))
+    old, new = taking.sheet(words.old), taking.sheet(words.new)
     found = loads.between(old, new, words.round, words.flash)
     if words.only:
         found = [it for it in found if it["cabinet"] in words.only]

@@ -8,8 +8,9 @@ from dataclasses import dataclass
 from typing import Any
 
 from ..shared.fault import Fault
-from .fields import Wrong, one_line
-from .given import Given, command_word, number
+from ..shared.given import Given, Wrong
+from .fields import one_line
+from .readers import command_word, number
 from ..shared.clock import day_time
 
 WEEKDAYS = ("monday", "tuesday", "wednesday", "thursday", "friday", "saturday", "sunday")
@@ -118,14 +119,14 @@ def read(top: Given, schedule_of: Callable[[Given], Schedule | None]) -> list[Da
     found = []
     for place, it in top.tables("day_plan"):
         it.allow(NAMES)
-        name = it.take("name", one_line, "") or f"day plan {place}"
-        it.where = f"day_plan {place} ({name})"
-        days, of_dates = it.take("days", weekdays, ()), it.take("dates", dates, ())
+        name = it.read("name", one_line, "") or f"day plan {place}"
+        it.place = f"day_plan {place} ({name})"
+        days, of_dates = it.read("days", weekdays, ()), it.read("dates", dates, ())
         if "days" not in it.table and "dates" not in it.table:
             it.fault("say on which days it holds: days, dates")
         if "schedule" not in it.table:
             it.fault("is missing", "schedule")
-        found.append(DayPlan(name, days, it.take("months", months, tuple(MONTHS)), of_dates, schedule_of(it) or []))
+        found.append(DayPlan(name, days, it.read("months", months, tuple(MONTHS)), of_dates, schedule_of(it) or []))
     if found and not top.faults:
         for words in (*same_names(found), *clashes(found), *gaps(found)):
             top.fault(words, "day_plan")

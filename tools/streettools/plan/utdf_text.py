@@ -7,7 +7,7 @@ import re
 from collections.abc import Iterable, Iterator
 from dataclasses import dataclass, field
 
-from .given import Fault, Unreadable
+from ..shared.given import Defect, Unreadable
 
 TITLES = {
     "network settings": "network", "node data": "nodes", "link data": "links", "lane group data": "lanes",
@@ -54,7 +54,7 @@ class Utdf:
 
     sections: dict[str, list[Row]] = field(default_factory=dict)
     strange: list[str] = field(default_factory=list)
-    faults: list[Fault] = field(default_factory=list)
+    faults: list[Defect] = field(default_factory=list)
     interval: int = 60
     notes: list[str] = field(default_factory=list)
 
@@ -99,7 +99,7 @@ class Utdf:
 
     def fault(self, entry: Entry, words: str) -> None:
         """Keeps what is wrong with a field, once."""
-        fault = Fault(entry.place(), words)
+        fault = Defect(entry.place(), words)
         if fault not in self.faults:
             self.faults.append(fault)
 
@@ -115,10 +115,10 @@ def rows_of(text: str, file: str) -> Iterator[tuple[int, list[str]]]:
     try:
         for row in lines:
             if lines.line_num > MOST_ROWS:
-                raise Unreadable([Fault(file, f"more than {MOST_ROWS} lines")])
+                raise Unreadable([Defect(file, f"more than {MOST_ROWS} lines")])
             yield lines.line_num, [it.strip() for it in row]
     except csv.Error as fault:
-        raise Unreadable([Fault(f"{file} line {lines.line_num}".strip(), f"not comma-separated: {fault}")]) from None
+        raise Unreadable([Defect(f"{file} line {lines.line_num}".strip(), f"not comma-separated: {fault}")]) from None
 
 
 def section_of(first: str, row: list[str]) -> str | None:
@@ -184,7 +184,7 @@ def read_all(texts: Iterable[tuple[str, str]]) -> Utdf:
     find_repeated(found)
     if not found.records("phases"):
         words = "a section [Phases], or a line `Phasing Data`, with a header RECORDNAME,INTID,D1,.."
-        raise Unreadable([Fault("", f"no phases in it: {words}")])
+        raise Unreadable([Defect("", f"no phases in it: {words}")])
     return found
 
 

@@ -7,9 +7,9 @@ from collections.abc import Iterator
 from dataclasses import dataclass
 
 from ..shared.ber import Arcs
+from ..shared.mib import names
 from ..shared.oids import ENTRIES, SEQUENCE_ENTRY, UNIT, dotted
 from ..street.ntcip.objects import OBJECTS, WRITABLE
-from ..street.panel.names import names
 from .front_objects import NAMED
 from .markdown import escaped, table
 

@@ -21,6 +21,8 @@ HERE = os.path.dirname(os.path.dirname(os.path.dirname(os.path.realpath(__file__
 it."""
 OWN, FINDER = os.path.join(HERE, "arterial"), os.path.join(HERE, "proved")
 """The program of an installation, and the script that finds the one of a checkout."""
+CARRIED = os.path.join(HERE, "arterial", "data", "program", "arterial")
+"""The program inside the Python package, where a wheel carries one."""
 MODEL = os.path.join(os.path.dirname(HERE), "model", "program")
 """The model of a checkout: the same commands in plain Python, with which the program is compared (model/README.md)."""
 FIND = 'found=$(. "$0" 2>/dev/null) && exec "$found" "$@"; exit 125'
@@ -101,6 +103,8 @@ def usual() -> str:
     """Returns the path of the program where nothing names it."""
     if os.path.isfile(OWN):
         return OWN
+    if os.path.isfile(CARRIED):
+        return CARRIED
     if os.path.isfile(FINDER):
         import subprocess
 

@@ -14,6 +14,7 @@ from typing import Any
 from ..plan.suffixes import is_sheet
 from ..shared import saying
 from ..shared.fault import Fault
+from ..shared.given import content_of
 from ..shared.program import NoProgram, answering, ran
 from ..shared.status import Status
 from . import ports, words
@@ -58,7 +59,7 @@ def text_of(path: str) -> bytes:
         from ..plan import taking  # takes a while
 
         return json.dumps(taking.sheet(path).scenario).encode()
-    return pathlib.Path(path).read_bytes().replace(b"\n", b" ")
+    return content_of(path).replace(b"\n", b" ")
 
 
 def asked_for(given: argparse.Namespace, program: pathlib.Path) -> tuple[dict[str, Any], list[bytes]]:

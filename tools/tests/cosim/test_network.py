@@ -5,6 +5,7 @@ import itertools
 import pytest
 
 from streettools.cosim import network
+from streettools.shared.fault import Fault
 
 from .conftest import STREET, TEE
 
@@ -40,3 +41,19 @@ def test_the_way_over_a_junction_is_that_between_the_stop_lines():
     """The stop lines of e0 and e1 are 280 m apart: an edge and the junction before it."""
     known = network.read(STREET / "street.net.xml")
     assert known.edges["e1"].length + known.inner["e0", "e1"].metres == pytest.approx(280, abs=0.1)
+
+
+@pytest.mark.parametrize(("before", "after", "line"), [
+    (' length="', ' size="', "lane without length"), (' index="', ' place="', "without index"),
+    ("<edge id=", "<edge name=", "edge without id"), (' toLane="', ' lane="', "is missing"),
+    (' speed="', ' speed="fast', "could not convert"),
+])  # fmt: skip
+def test_a_network_that_lacks_what_a_network_has_is_refused_in_one_line(tmp_path, before, after, line):
+    path = tmp_path / "x.net.xml"
+    text = (TEE / "tee.net.xml").read_text()
+    assert before in text
+    path.write_text(text.replace(before, after))
+    with pytest.raises(Fault) as refused:
+        network.read(path)
+    said = str(refused.value)
+    assert said.startswith(f"{path}: no network of SUMO: ") and line in said and "\n" not in said

@@ -101,7 +101,7 @@ def test_a_train_is_a_preempt_on_and_off(street):
 def test_persons_press_buttons_and_walk(street):
     scenario = json.loads((street / "session.trace").read_bytes().split(b"\n", 1)[0][2:])
     pressed = {(it["cabinet"], it["ped"]) for it in scenario["inputs"] if "ped" in it}
-    assert pressed and pressed <= {(2, 4), (3, 2)}
+    assert pressed and pressed <= {(2, 8), (3, 2)}
     persons = [it for it in study_of(street).trips if it.kind is Kind.PERSON]
     assert any(it.arrive is not None for it in persons)
 
@@ -170,7 +170,7 @@ def wait_for(is_so, running):
 
 
 ALL_GREEN = """#!/usr/bin/python3
-# speaks the dialogue of a session, and shows phases 2 and 4 green at once from tick 200 on
+# speaks the dialogue of a session, and shows phases 2 and 8 green at once from tick 200 on
 import sys
 def say(*lines):
     sys.stdout.write("".join(line + "\\n" for line in (*lines, ".")))
@@ -184,7 +184,7 @@ for line in sys.stdin:
     if words[0] == "tick":
         tick += int(words[1])
         if tick == 200:
-            lines.append("F 1 200 RGRGRGRRRRRRRRRR DDDDDDDDDDDDDDDD F 0 0 0")
+            lines.append("F 1 200 RGRRRGRGRRRRRRRR DDDDDDDDDDDDDDDD F 0 0 0")
         lines += [f"J 1 4*10", f"R {tick // 10 + 1}"]
     say(*lines)
 say("J 1 4*10", f"Z {tick // 10 + 1}")

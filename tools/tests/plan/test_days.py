@@ -5,7 +5,7 @@ import json
 import pytest
 
 from streettools.plan import reading, toml_text, writing
-from streettools.plan.given import Unreadable
+from streettools.shared.given import Unreadable
 
 from .conftest import plan, said
 
@@ -95,7 +95,7 @@ def test_the_program_takes_the_scenario_of_a_day(week, program):
         ([("2026-12-28", "2026-12-25")], "a date is said twice"),
         ([('days = "monday to friday"\n', "")], "say on which days it holds: days, dates"),
         ([('schedule = [{at = 08:00:00, pattern = 1}]', "")], "day_plan 3 (market), schedule: is missing"),
-        ([('dates = [2026-12-24, "12-25"]', "date = [2026-12-24]")], "date: no such name: dates?"),
+        ([('dates = [2026-12-24, "12-25"]', "date = [2026-12-24]")], "date: is unknown; did you mean dates?"),
     ],
 )  # fmt: skip
 def test_days_with_two_plans_or_without_one_are_errors(week, pairs, words):

@@ -220,7 +220,7 @@ FOUND = {
     ),
     "travel times at the top": (
         {'units = "us"': "travel = [20]"},
-        "travel: error: no such name here: write it in [[intersection]]",
+        "travel: error: is unknown here; write it in [[intersection]]",
     ),
     "units by the name of a speed": (
         {'units = "us"': 'units = "mph"'},

@@ -8,7 +8,7 @@ import pytest
 
 from streettools.cosim.queues.volumes import volumes_of
 from streettools.plan import reading, toml_text, utdf_in, utdf_out, utdf_text, volumes_text, writing
-from streettools.plan.given import Unreadable
+from streettools.shared.given import Unreadable
 from streettools.shared.cells import tables_of
 
 from .conftest import TOP, plan, said

@@ -68,19 +68,24 @@ class Street:
     def run(self, cabinets: Cabinets, signals: Signals, advance: Callable[[int], None]) -> None:
         """Runs all steps; `advance` is told each of them."""
         signals.shown(cabinets.shown)
-        seers = list(self.detectors.values())
         for step in range(self.steps.count):
-            now = step * self.size
-            requests = self.presses[step]
-            for it in seers:
-                if it.is_awake:
-                    it.told(now, requests)
-            lines = cabinets.step(requests, self.steps.ticks)
-            self.arrive(step)
-            for change in signals.shown(lines):
-                self.turn(change, step)
-            self.discharge(step, now + self.size)
+            self.follow(step, signals.shown(cabinets.step(self.requests(step), self.steps.ticks)))
             advance(step)
+
+    def requests(self, step: int) -> list[bytes]:
+        """Returns what cabinets are told before a step: push buttons, then detectors that have changed."""
+        requests, now = self.presses[step], step * self.size
+        for it in self.detectors.values():
+            if it.is_awake:
+                it.told(now, requests)
+        return requests
+
+    def follow(self, step: int, changes: list[Change]) -> None:
+        """Moves vehicles through a step in which signals have changed."""
+        self.arrive(step)
+        for change in changes:
+            self.turn(change, step)
+        self.discharge(step, step * self.size + self.size)
 
     def arrive(self, step: int) -> None:
         """Takes those who reach a stop line, or drive over the detector ahead of it, in a step."""

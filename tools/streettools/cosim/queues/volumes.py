@@ -182,8 +182,9 @@ def onward_of(given: Given, dispersion: float) -> Onward | None:
 
 def flow_of(given: Given, cabinet: int, around: Usual) -> Flow:
     """Reads a movement."""
-    usual = Usual.of(given, around)
     name = given.need("name", str)
+    given.place = f"cabinet {cabinet}, movement {name}: "
+    usual = Usual.of(given, around)
     if not name or " " in name:
         raise given.refuse("name", "has to be one word, as EBT")
     if "phase" not in given.table:
@@ -208,7 +209,8 @@ def flow_of(given: Given, cabinet: int, around: Usual) -> Flow:
 
 def crossing_of(given: Given, cabinet: int, usual: Usual) -> Crossing:
     """Reads a crossing."""
-    given.need("phase", int)
+    phase = given.need("phase", int)
+    given.place = f"cabinet {cabinet}, crossing of phase {phase}: "
     found = Crossing(
         cabinet,
         given.within("phase", int, 1, 16),
@@ -231,6 +233,7 @@ def volumes_of(document: dict[str, Any]) -> Volumes:
     def cabinet(row: Given) -> None:
         number = row.need("number", int)
         numbers.append(number)
+        row.place = f"cabinet {number}: "
         flows.extend(row.each("movements", lambda it: flow_of(it, number, usual)))
         crossings.extend(row.each("crossings", lambda it: crossing_of(it, number, usual)))
         idle.extend((number, it) for it in row.numbers("idle", 16))
