@@ -1,4 +1,4 @@
-//! Adapters over readers and writers: standard input and output, files, buffers before and behind them, bytes in
+//! Adapters over readers and writers: standard input and output, files, buffers before and after them, bytes in
 //! memory, and any other type that implements `SteadyRead` or `SteadyWrite`. If the reader states the bytes that are
 //! left, the source states the same; if the writer states the bytes that were written, the sink does. Standard input
 //! and output and files state nothing: what is outside the program is trusted.

@@ -23,8 +23,8 @@ examples:
   ./arterial cosim compare scenarios/sumo/street/offsets.toml -o out/     # under SUMO
   ./arterial cosim compare scenarios/sumo/street/bus.toml -o out/ --workers 4 --keep
 
-All plans run over the same seeds, so that they meet the same vehicles. A difference is taken seed by seed; its
-interval of 95 % is Student's over the seeds, and where it has 0 in it there is no real difference. The folder gets
+All plans run with the same seeds, so they have the same vehicles. Differences are computed for each seed; the interval
+of 95 % is Student's over the seeds. If it contains 0, the report says "no real difference". The folder gets
 comparison.txt and comparison.json. docs/QUEUES.md and docs/COSIM.md explain the file."""
 HEADS = ("plan", "trips", "delay", "stops", "more delay", "more stops", "delay differs")
 
