@@ -55,6 +55,8 @@ def value_of(count: Count) -> Value:
         "stops": share(count.stops, count.vehicles, 2),
         "on_green": on_green,
         "green": green,
+        "v_c": None if count.capacity is None else share(count.arrivals, count.capacity, 2),
+        "full": None if count.full_time is None else share(count.full_time, count.time),
         "platoon_ratio": round(on_green / green, 2) if on_green is not None and green else None,
         "queue_mean": share(count.queued, count.queue_time, 2),
         "queue_greatest": count.queue_greatest,
@@ -102,6 +104,7 @@ def collect(study: Study, greens: Greens | None = None) -> Value:
         "cabinets": [{"cabinet": number} | cabinet_value(it) for number, it in cabinets.items()],
         "movements": moved,
         "crossings": walked,
+        "lanes": [it._asdict() for it in study.lanes],
         "routes": [
             {"kind": str(kind), "route": name} | route_value(it)
             for (kind, name), it in sorted(routes(study).items(), key=lambda it: (-it[1].trips, it[0]))
@@ -119,6 +122,8 @@ COLUMNS = {
     "on_green": "on green",
     "green": "green",
     "platoon_ratio": "ratio",
+    "v_c": "v/c",
+    "full": "full",
     "queue_mean": "queue",
     "queue_greatest": "greatest",
     "left": "left",
@@ -129,6 +134,7 @@ COLUMNS = {
 OF_CABINET = ("vehicles", "delay", "delay_95", "level", "stops", "on_green", "left", "split_failures")
 """The columns that a whole cabinet has: its movements have no green and no queue in common."""
 ROUTES = {"trips": "trips", "arrived": "arrived", "travel": "travel", "delay": "delay", "stops": "stops"}
+LANES = {name: name for name in ("cabinet", "lane", "greens", "vehicles", "saturation", "lost")}
 SHOWN = 12
 """So many routes are shown, those with the most trips first."""
 
@@ -158,10 +164,15 @@ def text(value: Value) -> str:
     parts = [f"{head}{value['seconds']:g} s{counted}; times in seconds\n"]
     parts.append(table(value["kinds"], {"kind": "who"} | ROUTES))
     parts.append(table(value["cabinets"], {"cabinet": "cabinet"} | {name: COLUMNS[name] for name in OF_CABINET}))
-    parts.append(table(value["movements"], {"cabinet": "cabinet", "movement": "movement", "phase": "phase"} | COLUMNS))
+    rows = value["movements"]
+    shown = [it for it in COLUMNS if it not in ("v_c", "full") or any(row[it] is not None for row in rows)]
+    heads = {"cabinet": "cabinet", "movement": "movement", "phase": "phase"} | {name: COLUMNS[name] for name in shown}
+    parts.append(table(rows, heads))
     if value["crossings"]:
         heads = {"cabinet": "cabinet", "movement": "crossing", "persons": "persons", "delay": "delay"}
         parts.append(table(value["crossings"], heads))
+    if value["lanes"]:
+        parts.append(table(value["lanes"], LANES))
     rows = value["routes"]
     if rows:
         parts.append(table(rows[:SHOWN], {"route": "route", "kind": "who"} | ROUTES))
