@@ -92,7 +92,7 @@ def read_comparison(path: pathlib.Path) -> Comparison:
     names = [it.name for it in plans]
     if len(plans) < 2 or len(set(names)) < len(names):
         raise given.refuse("plan", "is needed at least twice, each with a different name")
-    step, against = given.take("step", NUMBER, 1), given.take("against", str, names[0])
+    step, against = given.take("step", NUMBER, 0.1), given.take("against", str, names[0])
     if step not in (0.1, 1):
         raise given.refuse("step", "has to be 0.1 or 1")
     if against not in names:
