@@ -64,8 +64,8 @@ abbrev pub with_values : Message → Result (List Bind) Fault → Message
 with_values m (Ok binds) = within_frame m (response m 0 0 binds)
 with_values m (Err fault) = repeated m fault.status fault.index
 
--- the status that says what the download stage answered: 3 where the id or the part isn't the expected one, 5 where it can't
--- be done
+-- the status that says what the download stage answered: 3 where the id or the part isn't the expected one, 5 where it
+-- can't be done
 abbrev pub stage_status : StageAnswer → ℕ
 stage_status WrongToken = 3
 stage_status (WrongPart due) = 3

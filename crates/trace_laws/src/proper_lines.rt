@@ -10,8 +10,8 @@ ghost use Rattle.run_definition.specs.Orders.{AreJournals};
 use cabinet_laws::{cabinet_histories_are_admitted, downloads_end_as_judged, tables_stay_in_range};
 use master_rounds::rounds_are_short;
 
-/// For every order in which the items of a run arrive at its cabinets: each of its lines is one that a trace may have: journals are
-/// in longest runs, replies are 1 to 1,472 octets, and every number is within its type.
+/// For every order in which the items of a run arrive at its cabinets, each of its lines is one that a trace may have:
+/// journals are in longest runs, replies are 1 to 1,472 octets, and every number is within its type.
 pub fn lines_are_proper()
     ensures { (s : ScenarioContent) → Runnable s → (journals : List (List (List ℕ))) → AreJournals s journals
         → AreLines (run_lines s journals) }
