@@ -68,6 +68,10 @@ run_and_explain() {
             show_expected "$said"
         fi
         ;;
+    7:overlap:*)
+        shift
+        show_overlap "$said" "$@"
+        ;;
     esac
     exit "$status"
 }
@@ -96,6 +100,11 @@ show_expected() {
     else
         say "with the name of a file, arterial check FILE also shows the line read and the expected line"
     fi
+}
+
+# Shows, after the program's line about an overlap that breaks a rule, what the rule asks.
+show_overlap() {
+    [ -f /dev/stdin ] && (set_python && "$found" -B "$tools/streettools" launch overlap "$@")
 }
 
 # Shows, after the program's line about an invalid scenario, what was expected and what was found.

@@ -41,8 +41,10 @@ from .vector import VectorEnv
 if TYPE_CHECKING:
     from . import traffic
     from .given import Given
+    from .sumo import Sumo
 
     Volumes = traffic.Given
+    Path = str | os.PathLike[str]
     Observation = numpy.ndarray[Any, numpy.dtype[numpy.float32]]
 
 SAMPLES = {0.1: 1, 0.2: 2, 0.5: 5, 1.0: 10}
@@ -69,10 +71,13 @@ def weights_of(reward: "Reward") -> "Mapping[str, float] | Callable[[dict[str, f
 
 
 class StreetEnv:
-    """A street under traffic, by the model of queues (docs/QUEUES.md).
+    """A street under traffic: vehicles wait in queues (docs/QUEUES.md), or SUMO drives them (docs/COSIM.md).
 
     - `scenario`: the cabinets, as for `arterial.run`; its own inputs of detectors and buttons are left out;
     - `volumes`: who comes: the path of a file of volumes (docs/QUEUES.md), or its content as a dict;
+    - `sumo`: in place of volumes, the path of a configuration of SUMO (.sumocfg) and that of the street's map. A
+      process has one SUMO at a time; vehicles wait if they stand on the last lane before a stop line, which is looked
+      at once a second, and `passed` counts those that arrived;
     - `seconds`: the length of an episode; `step_s`: the seconds of a step, a multiple of `sample_s`; `sample_s`: the
       seconds between two samples of the detectors (0.1, 0.2, 0.5 or 1);
     - `actions`: `patterns`: an action has for each cabinet the place of its pattern in `env.patterns`. `calls`: an
@@ -96,14 +101,14 @@ class StreetEnv:
     spec: Any = None
 
     def __init__(
-        self, scenario: "Given", volumes: "Volumes", *, seconds: float = 900.0, step_s: float = 1.0,
-        sample_s: float = 1.0, actions: str = "patterns", patterns: Sequence[int] | None = None,
-        reward: "Reward" = "delay", program: str | os.PathLike[str] | None = None, keep_trace: bool = False,
+        self, scenario: "Given", volumes: "Volumes | None" = None, *, sumo: "tuple[Path, Path] | None" = None,
+        seconds: float = 900.0, step_s: float = 1.0, sample_s: float = 1.0, actions: str = "patterns",
+        patterns: Sequence[int] | None = None, reward: "Reward" = "delay",
+        program: str | os.PathLike[str] | None = None, keep_trace: bool = False,
     ) -> None:  # fmt: skip
         self._setup(scenario, seconds, step_s, sample_s, actions, reward)
         with own():
-            self.volumes = read(volumes)
-            checks.check(self.volumes, self.scenario, self.seconds)
+            self._make = self._traffic(volumes, sumo)
         self.patterns = self._patterns(patterns)
         self._program, self._keeps = str(path_of(program)), keep_trace
         self.cabinets = len(self.scenario["cabinets"])
@@ -114,7 +119,9 @@ class StreetEnv:
             spaces.switches(many) if actions == "calls" else spaces.choices([len(self.patterns)] * self.cabinets)
         )
         self._commands = self._messages()
-        self._random, self._run, self._trace = random.Random(), None, None
+        self._random = random.Random()
+        self._run: Queues | Sumo | None = None
+        self._trace: Trace | None = None
         self._finalizer: Any = None
 
     def _setup(
@@ -133,6 +140,23 @@ class StreetEnv:
         if actions not in ACTIONS:
             raise Refused("", (f"actions: expected {' or '.join(ACTIONS)}, found {actions!r}",))
         self.actions, self._reward = actions, weights_of(reward)
+
+    def _traffic(self, volumes: "Volumes | None", sumo: "tuple[Path, Path] | None") -> Callable[..., "Queues | Sumo"]:
+        """Returns what makes the traffic of an episode, by the program, the ticks of a sample, the seed, and whether a
+        trace is kept."""
+        if (volumes is None) == (sumo is None):
+            raise Refused("", ("expected either volumes or sumo",))
+        if sumo is not None:
+            if not isinstance(sumo, tuple) or len(sumo) != 2:
+                raise Refused("", (f"sumo: expected the paths of a configuration and of a map, found {sumo!r}",))
+            from .sumo import Sumo, read as read_sumo
+
+            parts = read_sumo(*sumo)
+            return lambda program, *rest: Sumo(program, self.scenario, parts, self.seconds, *rest)
+        assert volumes is not None
+        self.volumes = read(volumes)
+        checks.check(self.volumes, self.scenario, self.seconds)
+        return lambda program, *rest: Queues(program, self.scenario, self.volumes, self.seconds, *rest)
 
     def _patterns(self, given: Sequence[int] | None) -> list[int]:
         """Returns the patterns that may be commanded."""
@@ -168,9 +192,8 @@ class StreetEnv:
         if seed is not None:
             self._random = random.Random(seed)
         drawn = seed if seed is not None else self._random.getrandbits(32)
-        given = (self.scenario, self.volumes, self.seconds, SAMPLES[self.sample_s], drawn, self._keeps)
         with own():
-            self._run = Queues(self._program, *given)
+            self._run = self._make(self._program, SAMPLES[self.sample_s], drawn, self._keeps)
         self._finalizer = weakref.finalize(self, self._run.end)
         self._letters = [b"R" * 16] * self.cabinets
         self._view: Observation = numpy.zeros((self.cabinets, 3, 16), dtype=numpy.float32)

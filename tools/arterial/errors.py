@@ -55,7 +55,7 @@ class Refused(Error):
 
 
 class NoProgram(Error):
-    """There is no program that can be run here."""
+    """No program was found that can be run here."""
 
 
 class ProgramDied(Error):

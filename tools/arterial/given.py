@@ -3,7 +3,7 @@
 import json
 import os
 import pathlib
-from typing import TYPE_CHECKING, Any, Protocol, runtime_checkable
+from typing import TYPE_CHECKING, Any, Protocol, TypeAlias, runtime_checkable
 
 from streettools.shared.values import MOST_BYTES, shown
 
@@ -25,7 +25,7 @@ class HasValue(Protocol):
 
 
 if TYPE_CHECKING:
-    Given = dict[str, Any] | Scenario | Plan | str | bytes | os.PathLike[str]
+    Given: TypeAlias = "dict[str, Any] | Scenario | Plan | str | bytes | os.PathLike[str]"
     """What every function takes that takes a scenario. A text that begins with `{` is JSON, any other is a path; the
     path of a timing sheet ends in .toml or .xlsx."""
 

@@ -10,6 +10,7 @@ from typing import TYPE_CHECKING, Any, NamedTuple, ParamSpec, Self, TypeVar
 from streettools.cosim.queues.session import scenario_of
 from streettools.shared import oids, session
 from streettools.shared import lines as trace_lines
+from streettools.shared.ber import Arcs
 from streettools.shared.session_record import SessionRecord
 from streettools.shared.trace_records import Answer, End, Frame, Load, Note
 
@@ -24,7 +25,8 @@ from .traces import Trace
 if TYPE_CHECKING:
     from .given import Given
 
-P, R = ParamSpec("P"), TypeVar("R")
+P = ParamSpec("P")
+R = TypeVar("R")
 REFUSALS = {
     "request": "the request is too long or has the wrong number of words", "cabinet": "the session has no such cabinet",
     "phase": "expected a phase from 1 to 16", "number": "expected a preempt from 1 to 8",
@@ -274,7 +276,7 @@ class Street:
         self._set(cabinet, [name], [(objects.arcs_of(name), value)], "priority")
 
     def _set(
-        self, cabinet: int, names: Sequence[str], bindings: Sequence[tuple[objects.Arcs, Value]], stream: str
+        self, cabinet: int, names: Sequence[str], bindings: Sequence[tuple[Arcs, Value]], stream: str
     ) -> Load | None:
         octets = objects.set_octets(self._next(), bindings, self._community)
         reply, load = self._replied(cabinet, octets, stream)
@@ -315,7 +317,7 @@ class Street:
             raise Refused("", (f"cells: expected 1 to 768 cells, found {len(bindings)}",))
         self._loads[self._cabinet(cabinet)] += 1
         number, head = self._loads[cabinet], [(oids.ID, self._loads[cabinet])]
-        steps: list[list[tuple[objects.Arcs, Value]]] = [[(oids.BEGIN, number)]]
+        steps: list[list[tuple[Arcs, Value]]] = [[(oids.BEGIN, number)]]
         parts = [bindings[at : at + PART] for at in range(0, len(bindings), PART)]
         steps += [[*head, (oids.PART, count), *part] for count, part in enumerate(parts, 1)]
         steps += [[*head, (oids.TOTAL, len(parts))], [*head, (oids.FINISH, 1)]]
@@ -364,7 +366,7 @@ def switched(on: Any) -> bytes:
     return b"on" if on else b"off"
 
 
-def binding(cell: Sequence[Any]) -> tuple[objects.Arcs, Value]:
+def binding(cell: Sequence[Any]) -> tuple[Arcs, Value]:
     """Returns the object and the value of a cell."""
     from streettools.shared.values import cell as faults_of
 

@@ -69,25 +69,19 @@ def drawn(
 
 def draw(text: bytes, kind: str, span: "Span", name: str, travel_s: Sequence[float] | None) -> None:
     """Draws a picture of a trace into a file."""
-    from streettools.look import called
+    from streettools.look import called, offset, rings
 
     from .walks import reader_of
 
     reader, names = reader_of(text), called.Called()
+    own: Any = rings if kind == "rings" else offset  # the modules of pictures have no types
+    more = (frozenset[int](),) if kind == "rings" else ()
     last = reader.rounds * reader.ticks
     start, end = ticks_of(span, kind, last)
     if kind == "coordination":
         street(reader, names, (start, end), name, travel_s)
         return
-    number = span.cabinet or 1
-    if kind == "rings":
-        from streettools.look import rings
-
-        rings.draw(rings.collect(reader, number, start, end, frozenset()), name, names)
-    else:
-        from streettools.look import offset
-
-        offset.draw(offset.collect(reader, number, start, end), name, names)
+    own.draw(own.collect(reader, span.cabinet or 1, start, end, *more), name, names)
 
 
 def ticks_of(span: "Span", kind: str, last: int) -> tuple[int, int]:
@@ -105,9 +99,10 @@ def street(reader: Any, names: Any, ticks: tuple[int, int], name: str, travel_s:
     """Draws the coordinated greens of a street."""
     from streettools.look import coordination
 
+    own: Any = coordination
     travel = None if travel_s is None else [round(10 * it) for it in travel_s]
     if travel is not None and len(travel) != reader.cabinets - 1:
         raise Fault(f"travel_s: {reader.cabinets} cabinets have {reader.cabinets - 1} times between them")
     look = coordination.View(*ticks, sum(travel or ()), None, names)
-    corners = coordination.collect(reader, list(range(1, reader.cabinets + 1)), look)
-    coordination.draw(corners, travel, name)
+    corners = own.collect(reader, list(range(1, reader.cabinets + 1)), look)
+    own.draw(corners, travel, name)

@@ -19,7 +19,7 @@ if TYPE_CHECKING:
     from streettools.plan.reading import Street
     from streettools.plan.sources import Source
 
-    from .runs import Trace
+    from .traces import Trace
 
 Path = str | os.PathLike[str]
 

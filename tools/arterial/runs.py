@@ -11,7 +11,7 @@ from streettools.shared.status import Status
 from .errors import Error, Late, ProgramDied, Refused, own
 from .given import text_of
 from .programs import path_of
-from .traces import Trace
+from .traces import Trace, octets_of
 
 if TYPE_CHECKING:
     from .given import Given
@@ -135,7 +135,7 @@ def text_of_trace(given: "Trace | str | bytes | os.PathLike[str]") -> bytes:
     if isinstance(given, str) and given.startswith("S "):
         return given.encode("utf-8", "surrogateescape")
     if isinstance(given, (str, os.PathLike)):
-        return Trace.read(given, is_whole=False).text
+        return octets_of(given)
     raise Refused("", (f"expected a Trace, text or the path of a file, found {type(given).__name__}",))
 
 

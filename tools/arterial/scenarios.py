@@ -239,7 +239,9 @@ def each(value: dict[str, Any], name: str, made: Any) -> list[Any] | None:
 
 def input_of(it: dict[str, Any]) -> Vehicle | Pedestrian | Preempt:
     """Returns an input."""
-    return (Vehicle if "veh" in it else Pedestrian if "ped" in it else Preempt)(**it)
+    if "veh" in it:
+        return Vehicle(**it)
+    return Pedestrian(**it) if "ped" in it else Preempt(**it)
 
 
 def request_of(it: dict[str, Any]) -> Request | Cancel:

@@ -1,5 +1,6 @@
 """A trace as tables: what each cabinet showed and why, in seconds, as pandas frames; and as pictures."""
 
+import copy
 import functools
 import os
 import pathlib
@@ -51,11 +52,11 @@ class Trace:
     {'phase': 2, 'start_s': 6.0, 'end_s': 46.0, 'ending': 'maximum'}
     """
 
-    def __init__(self, text: str | bytes, span: Span = Span()) -> None:
+    def __init__(self, text: str | bytes) -> None:
         if not isinstance(text, (str, bytes)):
             raise Refused("", (f"expected the text of a trace, found {type(text).__name__}",))
         self.text = text.encode("utf-8", "surrogateescape") if isinstance(text, str) else text
-        self.span = span
+        self._span = Span()
         with own():
             reader = walks.reader_of(self.text)
         self.cabinets: int = reader.cabinets
@@ -66,11 +67,9 @@ class Trace:
         self._events: list[walks.Event] | None = None
 
     @classmethod
-    def read(cls, path: str | os.PathLike[str], *, is_whole: bool = True) -> "Trace":
+    def read(cls, path: str | os.PathLike[str]) -> "Trace":
         """Returns the trace of a file; `NotATrace` if it isn't one, `Error` if it can't be read."""
-        with own():
-            text = pathlib.Path(path).read_bytes()
-        return cls(text) if is_whole else Raw(text)
+        return cls(octets_of(path))
 
     def save(self, path: str | os.PathLike[str]) -> pathlib.Path:
         """Writes the whole text of the trace to a file, whole or not at all, and returns its path."""
@@ -82,12 +81,12 @@ class Trace:
 
     def __repr__(self) -> str:
         count = f"{self.cabinets} cabinet{'s'[: self.cabinets - 1]}"
-        shown = "" if self.span == Span() else f", showing {self._shown()}"
+        shown = "" if self._span == Span() else f", showing {self._shown()}"
         return f"<arterial.Trace of {count}, {self.seconds:g} s{shown}>"
 
     def _shown(self) -> str:
-        cabinet = "" if self.span.cabinet is None else f"cabinet {self.span.cabinet}, "
-        return f"{cabinet}{self.span.start:g} to {min(self.span.end, self.seconds):g} s"
+        cabinet = "" if self._span.cabinet is None else f"cabinet {self._span.cabinet}, "
+        return f"{cabinet}{self._span.start:g} to {min(self._span.end, self.seconds):g} s"
 
     @property
     def scenario(self) -> dict[str, Any]:
@@ -104,7 +103,7 @@ class Trace:
         if type(number) is not int or not 1 <= number <= self.cabinets:
             words = f"the trace has no cabinet {number!r}: it has {self.cabinets}, numbered from 1"
             raise NoCabinet(words)
-        return self._view(self.span._replace(cabinet=number))
+        return self._view(self._span._replace(cabinet=number))
 
     def between(self, start_s: float = 0.0, end_s: float | None = None) -> "Trace":
         """Returns a view of the time from `start_s` to before `end_s`, in seconds since the start of the run. Greens
@@ -112,11 +111,11 @@ class Trace:
         end = float("inf") if end_s is None else end_s
         if not all(isinstance(it, (int, float)) for it in (start_s, end)) or not 0 <= start_s < end:
             raise Refused("", (f"expected 0 <= start_s < end_s, found {start_s!r} and {end_s!r}",))
-        return self._view(self.span._replace(start=float(start_s), end=float(end)))
+        return self._view(self._span._replace(start=float(start_s), end=float(end)))
 
     def _view(self, span: Span) -> "Trace":
-        found = Trace(self.text, span)
-        found._walked, found._events = self._walked, self._events
+        found = copy.copy(self)
+        found._span = span
         return found
 
     def _rows(self) -> walks.Rows:
@@ -126,11 +125,11 @@ class Trace:
 
     def _is_shown(self, cabinet: int, start: int, end: int | None = None) -> bool:
         """Tells whether a row is in the view: one of a moment, or one that lasts up to an end."""
-        if self.span.cabinet not in (None, cabinet):
+        if self._span.cabinet not in (None, cabinet):
             return False
         first = start if end is None else end
-        within = first / 10 >= self.span.start if end is None else first / 10 > self.span.start
-        return within and start / 10 < self.span.end
+        within = first / 10 >= self._span.start if end is None else first / 10 > self._span.start
+        return within and start / 10 < self._span.end
 
     # tables
 
@@ -250,7 +249,7 @@ class Trace:
         if not 0 <= time_s <= self.seconds:
             raise Error(f"the trace has 0 to {self.seconds:g} s, not {time_s!r}")
         rows = self._rows().frames
-        shown = [it for it in rows if it.tick <= time_s * 10 + 1e-6 and self.span.cabinet in (None, it.cabinet)]
+        shown = [it for it in rows if it.tick <= time_s * 10 + 1e-6 and self._span.cabinet in (None, it.cabinet)]
         return {it.cabinet: it for it in shown}
 
     # pictures
@@ -270,14 +269,16 @@ class Trace:
         from . import pictures
 
         with own():
-            return pictures.drawn(self.text, kind, self.span, path, travel_s)
+            return pictures.drawn(self.text, kind, self._span, path, travel_s)
 
 
-class Raw(Trace):
-    """A text that may not be a trace: only its octets."""
-
-    def __init__(self, text: bytes) -> None:
-        self.text, self.span = text, Span()
+def octets_of(path: str | os.PathLike[str]) -> bytes:
+    """Returns the content of a file."""
+    with own():
+        try:
+            return pathlib.Path(path).read_bytes()
+        except ValueError:
+            raise Error(f"{path!r}: not the name of a file") from None
 
 
 def seconds(ticks: int | None) -> float | None:

@@ -199,17 +199,18 @@ def rows_of(text: bytes) -> Rows:
 
 def events_of(text: bytes) -> list[Event]:
     """Returns the event log of a trace, as `arterial look events` writes it."""
-    from streettools.look.events import Log, round_rows
+    from streettools.look import events
     from streettools.shared.trace_records import RoundEnd
 
+    look: Any = events  # its modules have no types
     found: list[Event] = []
     with own():
         reader = reader_of(text)
-        logs = [Log(reader.scenario, number) for number in range(1, reader.cabinets + 1)]
+        logs = [look.Log(reader.scenario, number) for number in range(1, reader.cabinets + 1)]
         touched: dict[int, Any] = {}
         for it in happenings(reader, ends=True):
             if isinstance(it, RoundEnd):
-                found += [Event(cabinet, *rest) for rest, cabinet in rows_in(round_rows(touched, it.tick))]
+                found += [Event(cabinet, *rest) for rest, cabinet in rows_in(look.round_rows(touched, it.tick))]
             else:
                 logs[it.cabinet - 1].take(it)
                 touched[it.cabinet] = logs[it.cabinet - 1]

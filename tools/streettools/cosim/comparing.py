@@ -73,7 +73,7 @@ def of(given: Given, folder: pathlib.Path) -> Comparison:
 
     plans = given.each("plan", plan_of)
     config, mapped = folder / given.need("sumo", str), folder / given.need("map", str)
-    return Comparison(config, mapped, plans, terms_of(given, plans, (0.1, 1)))
+    return Comparison(config, mapped, plans, terms_of(given, plans, (0.1, 1), 0.1))
 
 
 def read_comparison(path: pathlib.Path) -> Comparison:

@@ -68,12 +68,12 @@ def seeds_of(given: Given) -> tuple[int, ...]:
     return seeds
 
 
-def terms_of(given: Given, plans: Sequence[Named], steps: tuple[float, ...]) -> Terms:
+def terms_of(given: Given, plans: Sequence[Named], steps: tuple[float, ...], usual: float) -> Terms:
     """Reads the terms, which go with all plans."""
     names = [it.name for it in plans]
     if len(plans) < 2 or len(set(names)) < len(names):
         raise given.refuse("plan", "is needed at least twice, each with a different name")
-    step, against = given.take("step", NUMBER, 1), given.take("against", str, names[0])
+    step, against = given.take("step", NUMBER, usual), given.take("against", str, names[0])
     if step not in steps:
         raise given.refuse("step", "has to be " + " or ".join(f"{it:g}" for it in steps))
     if against not in names:

@@ -5,25 +5,32 @@ import json
 import pathlib
 from collections.abc import Callable
 from dataclasses import dataclass
-from typing import Any
+from typing import Any, NamedTuple
 
 from ..plan.suffixes import is_sheet
 from ..shared.fault import Fault
 from ..shared.given import content_of
 from ..shared.status import Status
-from . import drive, report
+from . import discharge, drive, report
 from .checks import check
 from .drive import Start
 from .halts import Halt
 from .loop import Given, Loop, Times, built_areas, types_of
 from .mapping import Map
 from .network import Network
-from .passing import Traffic, starts_of, trips_of
+from .passing import Traffic, starts_of, stood_of, trips_of, walks_of
 from .persons import Crossed
-from .records import Kind, Movement, Passage, Study, Trip, save
+from .records import Kind, Movement, Passage, Study, Trip, queue_samples, save
 from .session import Session
 
 TRACE, STUDY, REPORT = "session.trace", "study.json", "report"
+
+
+class Span(NamedTuple):
+    """The second of SUMO at which a run begins, and how many seconds it took."""
+
+    begin: float
+    end: float
 
 
 @dataclass
@@ -80,6 +87,9 @@ def run(given: Given, program: pathlib.Path, out: pathlib.Path, progress: Callab
     try:
         check(given.street, given.network, given.scenario)
         areas, added = built_areas(given.street, given.network, out)
+        loops = out / discharge.LOOPS
+        discharge.write_loops(given.network, lanes_of(given), loops, out / discharge.PASSED)
+        added = (*added, loops.resolve())
         start = Start(given.config, added, given.step, given.seconds, given.seed, out)
         try:
             with drive.running(sumo, start):
@@ -108,19 +118,22 @@ def done(
     if not session.save(out / TRACE):
         return Done(None, loop.times, fault)
     halts, begin = loop.halts.found, given.config.begin
-    trips, traffic = read_traffic(given.street, given.network, loop.watch.history, halts, types, out, begin)
-    movements = movements_of(given.street)
     seconds = loop.second
+    history = loop.watch.history
+    trips = read_traffic(given.street, given.network, history, halts, types, out, Span(begin, seconds))
+    movements, stood = movements_of(given.street), stood_of(halts)
+    passed = discharge.read_passages(out / discharge.PASSED, begin)
     study = Study(
         cabinets=len(given.scenario["cabinets"]),
         movements=movements,
         trace=out / TRACE,
-        trips=trips + persons_of(loop.buttons.crossed),
-        queues=traffic.queues(loop.halts.found, movements, seconds),
+        trips=trips + persons_of(loop.buttons.crossed, walks_of(out / drive.TRIPS, begin)),
+        queues=queue_samples(trips, movements),
         seconds=seconds,
         warm=given.warm,
         requests=loop.priority.done,
         title=given.config.path.stem,
+        lanes=discharge.lane_flows(lanes_of(given), history, passed, stood),
     )
     save(study, out / STUDY)
     value = report.collect(study, more=report.More(given.names))
@@ -136,17 +149,22 @@ def read_traffic(
     halts: list[Halt],
     types: dict[str, tuple[str, float]],
     out: pathlib.Path,
-    begin: float,
-) -> tuple[list[Trip], Traffic]:
+    span: Span,
+) -> list[Trip]:
     """Reads what SUMO wrote of its vehicles."""
     traffic = Traffic(street, network, history)
     traffic.read_stops(out / drive.STOPS)
-    traffic.read_routes(out / drive.ROUTES, begin, starts_of(out / drive.TRIPS))
-    return trips_of(out / drive.TRIPS, traffic, begin, types, halts), traffic
+    traffic.read_routes(out / drive.ROUTES, span.begin, starts_of(out / drive.TRIPS))
+    return trips_of(out / drive.TRIPS, traffic, span.begin, types, stood_of(halts), span.end)
 
 
-def persons_of(crossed: list[Crossed]) -> list[Trip]:
-    """Returns the persons who came to crossings: their waits there are their delay."""
+def lanes_of(given: Given) -> list[discharge.Approach]:
+    """Returns the lanes before the signals that cabinets have."""
+    return discharge.approaches(given.network, {it.id: it.cabinet for it in given.street.signals})
+
+
+def persons_of(crossed: list[Crossed], walks: dict[str, tuple[float, float | None]]) -> list[Trip]:
+    """Returns the persons who came to crossings: their delay is their waits there, their trips are their whole ways."""
     rows: dict[str, list[Crossed]] = {}
     for it in crossed:
         rows.setdefault(it.person, []).append(it)
@@ -163,5 +181,6 @@ def persons_of(crossed: list[Crossed]) -> list[Trip]:
         delay = round(sum(it.delay for it in passages), 2)
         stops = sum(it.stood for it in own)
         route = person.rpartition(".")[0] or person
-        found.append(Trip(person, route, Kind.PERSON, passages, own[0].arrived, own[-1].released, delay, stops))
+        start, end = walks.get(person, (own[0].arrived, own[-1].released))
+        found.append(Trip(person, route, Kind.PERSON, passages, start, end, delay, stops))
     return found

@@ -23,7 +23,7 @@ from .loop import Given, Times, types_of
 from .mapping import MappedSignal
 from .network import Network
 from .records import Trip
-from .run import read_traffic
+from .run import Span, read_traffic
 from .signals import Watch
 
 NEMA, ACTUATED = "nema", "actuated"
@@ -157,7 +157,8 @@ def run(
         types = types_of(sumo)
     times.whole, times.steps = time.perf_counter() - begun, given.steps()
     history = {name: rows for name, rows in watch.history.items()}
-    trips, _ = read_traffic(given.street, given.network, history, halts.found, types, out, given.config.begin)
+    span = Span(given.config.begin, given.seconds)
+    trips = read_traffic(given.street, given.network, history, halts.found, types, out, span)
     if not trips:
         raise Fault(f"{given.config.path}: no vehicle drove")
     return trips, times

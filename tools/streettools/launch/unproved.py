@@ -19,12 +19,12 @@ from streettools.shared.progress import waiting
 from streettools.shared.saying import say
 from streettools.shared.status import Status
 
-from . import crates, due, help, hint, keeping, kit, refused, source
+from . import crates, due, help, hint, keeping, kit, overlap, refused, source
 
 READERS = ("run", "check", "overlaps", "band", "respond")
 """Commands that read standard input."""
 
-NO_TRACE, REFUSED = 5, 2
+NO_TRACE, NO_OVERLAP, REFUSED = 5, 7, 2
 """The statuses of the program if a text isn't a trace, and if a scenario or a field file is invalid."""
 
 MOST_INPUT = (64 << 20) - 1
@@ -108,6 +108,9 @@ def answer(rt: str, arguments: list[str]) -> int:
         elif status == NO_TRACE and arguments[0] == "check":
             stdin.seek(0)
             due.tell("", stdin.read(), said.decode())
+        elif status == NO_OVERLAP and arguments[0] == "overlaps":
+            stdin.seek(0)
+            overlap.show(said.decode(), arguments[1:], stdin)
         elif status == REFUSED:
             stdin.seek(0)
             refused.show(arguments[0], stdin.read(MOST_INPUT), said.decode())

@@ -61,21 +61,10 @@ class Called:
         return f"left out: phases {listed} and {phases[-1]}, placeholder phases that only the rings need"
 
     def number(self, text: str, cabinets: int) -> int:
-        """Returns the number of the cabinet that a text names: by its number, by the name of its intersection, or by a
-        part of the name that no other has."""
-        if text.isdecimal() and text.isascii():
-            if not 1 <= int(text) <= cabinets:
-                raise Fault(f"the trace has no cabinet {text}: its cabinets are 1 to {cabinets}")
-            return int(text)
-        known = {number: self.street(number) for number in range(1, cabinets + 1)}
-        if not any(known.values()):
-            raise Fault(f"no name is known here, so not {text!r} either: --names gives names")
-        fits = [number for number, name in known.items() if name.casefold() == text.casefold()]
-        fits = fits or [number for number, name in known.items() if text.casefold() in name.casefold()]
-        if len(fits) != 1:
-            listed = ", ".join(repr(name) for name in known.values() if name)
-            raise Fault(f"{'several cabinets' if fits else 'no cabinet'} named {text!r}: there are {listed}")
-        return fits[0]
+        """Returns the number of the cabinet that a text names, by its number or name."""
+        from ..plan.names import Names  # takes a while
+
+        return (self.names or Names()).number(text, cabinets, "the trace")
 
     def travel(self, cabinets: list[int]) -> list[int] | None:
         """Returns the ticks from each of some cabinets to the next, None where they aren't all said, or where the

@@ -8,7 +8,7 @@ from dataclasses import replace
 from typing import Any
 
 from ..shared import files
-from ..shared.given import Unreadable, content_of
+from ..shared.given import Unreadable, Wrong, content_of
 from ..shared.progress import bar
 from ..shared.saying import say
 from ..shared.status import Status
@@ -34,6 +34,7 @@ from . import (
     writing,
 )
 from ..shared.cells import cells_between, tables_of
+from .event_times import Timed
 from .findings import Level, counted
 from .reading import Street, street_of
 from .sources import Source
@@ -178,12 +179,11 @@ def draw(words: argparse.Namespace) -> int:
     if source.errors or source.street is None:
         raise Refused("\n".join(f"{words.file}: {it}" for it in source.errors))
     cabinets = source.street.scenario["cabinets"]
-    if words.intersection > len(cabinets):
-        raise Refused(f"{words.file}: intersection {words.intersection} doesn't exist")
+    number = source.street.names.number(words.intersection, len(cabinets), words.file)
     if pathlib.Path(words.output).suffix not in PICTURES:
         raise Refused(f"{words.output}: a picture's name ends in " + ", ".join(PICTURES))
-    known, called = source.street.names.intersection(words.intersection), source.street.names.called(words.intersection)
-    picture.write(tables_of(cabinets[words.intersection - 1]), known, called, words.pattern, words.output)
+    known, called = source.street.names.intersection(number), source.street.names.called(number)
+    picture.write(tables_of(cabinets[number - 1]), known, called, words.pattern, words.output)
     return Status.DONE
 
 
@@ -271,9 +271,16 @@ def to_utdf(words: argparse.Namespace) -> int:
 def do_loads(words: argparse.Namespace) -> int:
     """Writes the downloads from one plan to another as a scenario's loads; or sends them, or says what it would."""
     old, new = taking.sheet(words.old), taking.sheet(words.new)
+    count = len(new.scenario["cabinets"])
+    if words.at is not None:
+        try:
+            words.round = Timed(new.scenario, []).round(words.at)
+        except Wrong as wrong:
+            raise Refused(str(wrong)) from None
     found = loads.between(old, new, words.round, words.flash)
     if words.only:
-        found = [it for it in found if it["cabinet"] in words.only]
+        only = [new.names.number(it, count, words.new) for it in words.only]
+        found = [it for it in found if it["cabinet"] in only]
     if words.flash:
         say("plan", "cabinets accept these downloads only in flash (pattern 255)")
     if words.sets:

@@ -80,6 +80,12 @@ def is_of(value: Any, kind: Any) -> bool:
     return isinstance(value, kind) and (kind in (bool, object) or not isinstance(value, bool))
 
 
+def is_shown(value: object) -> bool:
+    """Tells whether a value has only characters that a terminal prints: no escapes, no line ends. Only texts may lack
+    that."""
+    return not isinstance(value, str) or value.isprintable()
+
+
 class Wrong(Exception):
     """A value isn't allowed, in words."""
 
@@ -153,6 +159,9 @@ class Given:
         if not is_of(self.table[name], kind):
             self.fault(f"has to be {KINDS.get(kind) or ' or '.join(KINDS[it] for it in kind)}", name)
             return default
+        if not is_shown(self.table[name]):
+            self.fault("has characters that can't be shown", name)
+            return default
         return self.table[name]
 
     def read(self, name: str, read: Callable[[Any], Any], default: Any = None) -> Any:
@@ -208,6 +217,9 @@ class Given:
         found = self.take(name, list, [])
         if not all(is_of(it, kind) for it in found):
             self.fault(f"has to be a list of {words}", name)
+            return ()
+        if not all(map(is_shown, found)):
+            self.fault("has characters that can't be shown", name)
             return ()
         return tuple(found)
 

@@ -103,7 +103,19 @@ def test_persons_press_buttons_and_walk(street):
     pressed = {(it["cabinet"], it["ped"]) for it in scenario["inputs"] if "ped" in it}
     assert pressed and pressed <= {(2, 8), (3, 2)}
     persons = [it for it in study_of(street).trips if it.kind is Kind.PERSON]
-    assert any(it.arrive is not None for it in persons)
+    assert any(it.passages for it in persons)
+
+
+def test_the_trip_of_a_person_is_the_whole_way_and_its_delay_the_waits_at_crossings(street):
+    told = {it.get("id"): it for it in xml.parse(street / "tripinfo.xml").getroot() if it.tag == "personinfo"}
+    persons = [it for it in study_of(street).trips if it.kind is Kind.PERSON]
+    assert persons
+    for it in persons:
+        walk = told[it.vehicle].find("walk")
+        assert it.depart == pytest.approx(float(told[it.vehicle].get("depart")))
+        ended = float(walk.get("arrival", -1))
+        assert it.arrive == (None if ended < 0 else pytest.approx(ended))
+        assert it.delay == pytest.approx(sum(row.released - row.arrived for row in it.passages), abs=0.01)
 
 
 def test_the_report_stands_beside_the_trace(street):

@@ -42,8 +42,8 @@ def test_an_event_at_a_time_of_day_is_that_of_the_round_that_begins_then():
     ("item", "ticks", "words"),
     [
         ("{at = 06:59:59, cabinet = 1, ped = 4}", 10,
-         "events, inputs 1: at 06:59:59 is not in the run, which is from 07:00:00 to 07:30:00: clock in [master] is its"
-         " start, rounds in [run] its length"),
+         "events, inputs 1: at 06:59:59 is not in the run, which is from 07:00:00 to 07:30:00: clock in [master] is "
+         "its start, rounds in [run] its length"),
         ("{at = 07:00:03, cabinet = 1, ped = 4}", 50,
          "events, inputs 1: at 07:00:03 is within a round: rounds of 5 s begin at 07:00:00, and one at 07:00:00"),
         ("{at = 07:01:00, round = 3, cabinet = 1, ped = 4}", 10,

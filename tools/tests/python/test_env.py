@@ -2,6 +2,7 @@
 
 import gc
 import os
+import shutil
 import signal
 
 import arterial
@@ -133,6 +134,7 @@ def test_a_step_may_have_several_samples():
 WRONG = [
     {"actions": "colours"}, {"reward": "speed"}, {"reward": {}}, {"sample_s": 0.3}, {"step_s": 0.7}, {"step_s": 0},
     {"seconds": 0.5}, {"patterns": []}, {"patterns": [256]}, {"volumes": 5}, {"volumes": {"cabinet": []}},
+    {"volumes": None}, {"sumo": ("a.sumocfg", "b.toml")}, {"volumes": None, "sumo": "a.sumocfg"},
     {"volumes": "/nowhere.toml"}, {"scenario": 7}, {"scenario": {}}, {"volumes": {"cabinet": [{"number": 2}]}},
 ]  # fmt: skip
 
@@ -221,3 +223,22 @@ def test_a_process_that_is_killed_is_reported():
         both.reset(seed=1)
         both.step([[0], [0]])
     assert not still_runs(pid)
+
+
+@pytest.mark.skipif(shutil.which("sumo") is None, reason="SUMO is missing: apt-get install -y sumo sumo-tools")
+def test_vehicles_of_sumo_wait_and_arrive_under_the_same_interface():
+    """The street of scenarios/sumo: vehicles arrive within three minutes, and a second SUMO is refused."""
+    street = TOP / "scenarios/sumo/street"
+    given = {"sumo": (street / "cars.sumocfg", street / "street.map.toml"), "seconds": 180.0}
+    with arterial.env.StreetEnv(street / "free.json", keep_trace=True, **given) as it:
+        rows = episode(it, lambda seen: [it.patterns.index(0)] * 4)
+        assert rows[0][0].shape == (4, 3, 16) and len(rows) == 181
+        assert sum(row[2]["passed"] for row in rows) > 10 and sum(row[1] for row in rows) < -100
+        assert max(row[0][:, 0].max() for row in rows) >= 2
+        assert arterial.check(it.trace)
+        it.reset(seed=2)
+        with arterial.env.StreetEnv(street / "free.json", **given) as other:
+            with pytest.raises(arterial.Refused, match="SUMO runs once"):
+                other.reset(seed=1)
+    with pytest.raises(arterial.Error, match="nowhere"):
+        arterial.env.StreetEnv(street / "free.json", sumo=("nowhere.sumocfg", street / "street.map.toml"))

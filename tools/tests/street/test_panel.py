@@ -192,6 +192,46 @@ def test_messages_of_management_software_are_told_by_their_names(panel, browser)
     assert "Set systemPatternControl.0 = 256 badValue at 1" in text
 
 
+SHEET = """
+title = "Elm Street"
+[[intersection]]
+name = "Elm & Oak"
+travel = 22.5
+rings = ["1 2 | 4", "6 | -"]
+[intersection.phase]
+4 = {name = "Oak northbound"}
+[[intersection]]
+name = "Elm & 1st"
+travel = 18
+[[intersection]]
+name = "Elm & 2nd"
+"""
+
+
+def test_a_street_of_a_sheet_has_its_names_enabled_phases_and_times_of_travel(street, browser, tmp_path):
+    """Phase 8 is entered by the sheet: it is named as what it is. Of the standard table 9 to 16 aren't enabled. The
+    first intersection is drawn at the foot."""
+    (tmp_path / "elm.toml").write_text(SHEET)
+    running = street("--ports", 0, "--panel", 0, "--scenario", tmp_path / "elm.toml", "--speed", 5)
+    browser.get(running.told(r"panel at (http://\S+)")[1])
+    assert "Elm & Oak (cabinet 1)" in awaited(browser, "cards", "Elm & Oak")
+    values = "return [...document.querySelectorAll('#travel label')].map((it) => [it.innerText, it.lastChild.value])"
+    links = [(name.strip(), value) for name, value in browser.execute_script(values)]
+    assert links == [("Elm & Oak to Elm & 1st (s)", "22.5"), ("Elm & 1st to Elm & 2nd (s)", "18")]
+    browser.find_element("css selector", "#diagram text.row")
+    rows = "return [...document.querySelectorAll('#diagram text.row')]"
+    told = browser.execute_script(f"{rows}.map((it) => [it.textContent, it.getAttribute('y')])")
+    heights = {name: float(y) for name, y in told}
+    assert heights["Elm & Oak"] > heights["Elm & 1st"] > heights["Elm & 2nd"]
+    browser.execute_script("location.hash = '#1'")
+    text = awaited(browser, "phases", "Oak northbound")
+    assert awaited(browser, "cabinet-title", "cabinet 1") == "Elm & Oak (cabinet 1)"
+    listed = "return [...document.querySelectorAll('#phases tbody th')].map((it) => it.innerText)"
+    placeholder = "8 placeholder: only the rings need it"
+    assert browser.execute_script(listed) == ["1", "2", "4 Oak northbound", "6", placeholder]
+    assert "Oak northbound" in text_of(browser, "box-4"), text
+
+
 def test_time_is_paused_and_stepped(panel, browser):
     running, address = panel("--speed", 5)
     browser.get(address)

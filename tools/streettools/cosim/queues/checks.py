@@ -7,6 +7,7 @@ from ...shared.clock import hours_text
 from ...shared.fault import Fault
 from ...shared.tables import Tables
 from .volumes import Crossing, Flow, Volumes
+from .yielding import gives_way, yields_to
 
 
 def tables_of(scenario: dict[str, Any]) -> dict[int, Tables]:
@@ -26,6 +27,22 @@ def check(volumes: Volumes, scenario: dict[str, Any], seconds: float) -> None:
     names_are_known(volumes)
     profiles_cover(volumes, scenario, seconds)
     capacities_hold(volumes)
+    turns_are_known(volumes, tables)
+
+
+def turns_are_known(volumes: Volumes, tables: dict[int, Tables]) -> None:
+    """Refuses turns that give way in phases that aren't there, or to movements that aren't."""
+    names = {(it.cabinet, it.name) for it in volumes.flows}
+    for it in volumes.flows:
+        enabled = tables[it.cabinet].enabled()
+        if strange := next((phase for phase in it.permitted if phase not in enabled), None):
+            raise Fault(f"volumes: {told(it)}: permitted phase {strange} is not enabled in cabinet {it.cabinet}")
+        if strange := next((name for name in it.yielding.to if (it.cabinet, name) not in names), None):
+            raise Fault(f"volumes: {told(it)} yields to {strange}, a movement that doesn't exist")
+        if gives_way(it) and not yields_to(it):
+            raise Fault(f"volumes: {told(it)} gives way: yields_to has to name the movements to which it does")
+        if it.yielding.on_red and it.permitted:
+            raise Fault(f"volumes: {told(it)} has permitted phases and on_red: a movement has one of both")
 
 
 def cabinets_are_there(volumes: Volumes, tables: dict[int, Tables]) -> None:
