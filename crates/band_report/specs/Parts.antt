@@ -60,7 +60,7 @@ Puts old new name d = (ms : Members) → PartsStand old ms → PartsStand new (p
 
 -- ---- an object that is kept
 
--- the names beside the scenario's
+-- the names in addition to the scenario's
 abbrev pub beside_fields : List Field
 beside_fields = section ∷ pattern ∷ travel ∷ []
 

@@ -118,7 +118,7 @@ pub(crate) struct Beside {
     pub travel: Vec<u32>,
 }
 
-/// What the names beside the scenario's say.
+/// What the names in addition to the scenario's say.
 pub(crate) fn beside_in(alloc: Global, object: &Value) -> Result<Beside, ReadFail>
     ensures { Answers result (fields_faults (steps_of Place.Top) (view object.now) beside_fields) (λ beside. SaysBeside beside (view object.now)) }
 {

@@ -11,7 +11,7 @@ use scenario_data::ReadFail;
 use std::alloc::Global;
 
 /// The first fault of the bytes: that they are not JSON, of a name, or of the scenario, whose lists are judged item by
-/// item. Lack of memory is also the answer for what this way does not tell.
+/// item. Lack of memory is also the answer for what this way does not say.
 pub(crate) fn first_fault(alloc: Global, bytes: &[u8]) -> Result<(), ReadFail>
     ensures { IfErr result (λ fail. OnRefusal fail (IsFirstBandFault bytes.now)) }
 {

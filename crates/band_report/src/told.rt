@@ -86,7 +86,7 @@ fn lines_of(alloc: Global, asked: &Asked) -> Result<Vec<u8>, NoMemory>
 }
 
 /// The answer to bytes whose parts are read in little memory, where their names appear this often: the two lines, or
-/// their first fault. Lack of memory is also the answer for what this way does not tell.
+/// their first fault. Lack of memory is also the answer for what this way does not say.
 fn report_by_parts(alloc: Global, bytes: &[u8], left: FileLeft) -> Result<Vec<u8>, ReadFail>
     ensures told { IfOk result (λ text. TellsBands bytes.now text.items) }
     ensures refused { IfErr result (λ fail. OnRefusal fail (IsFirstBandFault bytes.now)) }

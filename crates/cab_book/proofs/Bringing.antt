@@ -1,4 +1,4 @@
--- A pass brings the next item of its stream: what is left, what the journal tells, the room, and the cabinet history.
+-- A pass brings the next item of its stream: what is left, what the journal says, the room, and the cabinet history.
 use Rattle.std.proofs.Common.{◌≡◌, ◌≢◌, ◌≤◌, ◌<◌, ℕ, zero, suc, ◌+◌, ◌∙◌, inl, inr, append_assoc, append-nil, List, [], ◌∷◌, ◌++◌, length, replicate, get_or, slice_set, refl, sym, ap, subst, arith}
 use Rattle.std.proofs.lemmas.List.{get_or-set_same, get_or-set_other}
 use Rattle.std.proofs.lemmas.Bool.{cases_lt}

@@ -134,7 +134,7 @@ pub record HasOnlyRoom (old new : Book) : Type 0 where
   pub left : new.left ≡ old.left
   pub happened : IsSameRound old.happened new.happened
 
--- nothing that a contract tells of a book has changed
+-- nothing that a contract says about a book has changed
 pub record IsAsBefore (old new : Book) : Type 0 where
   pub cabinet_histories : (cabinet_history : CabinetHistory) → BookStands old cabinet_history → BookStands new cabinet_history
   pub no_others : (cabinet_history : CabinetHistory) → BookStands new cabinet_history → BookStands old cabinet_history

@@ -21,7 +21,8 @@ written_of h = h.written.items
 abbrev pub answered_of : Happened → List Answered
 answered_of h = h.replies.items
 
--- there is room for that many ticks, that many frames from elsewhere and that many items in all, beside what there is
+-- there is room for that many ticks, that many frames from elsewhere and that many items in all, in addition to what
+-- there is
 pub record HasRoom (h : Happened) (ticks frames items : ℕ) : Type 0 where
   pub written : vec_len h.written + ticks ≤ vec_capacity h.written
   pub replies : vec_len h.replies + frames ≤ vec_capacity h.replies

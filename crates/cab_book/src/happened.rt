@@ -79,8 +79,8 @@ impl Happened {
         })
     }
 
-    /// Takes room for this number of frames from elsewhere and this number of items in all, besides those kept. Nothing else
-    /// changes, even if memory runs out.
+    /// Takes room for this number of frames from elsewhere and this number of items in all, in addition to those kept.
+    /// Nothing else changes, even if memory runs out.
     pub fn reserve(&mut self, frames: usize, items: usize) -> Result<(), NoMemory>
         ensures room { OnOk result ((ticks : ℕ) → HasRoom self.old ticks 0 0 → HasRoom self.new ticks frames items) }
         ensures kept { (ticks others all : ℕ) → HasRoom self.old ticks others all → HasRoom self.new ticks others all }

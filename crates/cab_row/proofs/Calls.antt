@@ -70,7 +70,7 @@ brought_done v w c many h = ap (λ (x : View). x.done) h.2
 pub brought_one : (v w : View) (c many : ℕ) → 1 ≤ many → many ≤ 1 → HasBrought v w c many → HasActed v w c
 brought_one v w c many least most h = let one : many ≡ 1 = omega (arith, least, most) in subst (λ n. HasBrought v w c n) one h
 
--- the word that an answer tells
+-- the word that an answer says
 abbrev pub word_told : Act → ℕ
 word_told Done = 0
 word_told (Busy word) = word

@@ -169,8 +169,8 @@ fn work_beside<R: Threads + Sync, B: Logged + Send + Sync, G: Gate + Sync>(
     )
 }
 
-// All these workers work, the last one beside the others, and so on. This thread starts the others one after another, since a thread
-// that has to start others runs late, and these later still.
+// All these workers work, the last one next to the others, and so on. This thread starts the others one after another,
+// since a thread that has to start others runs late, and these later still.
 #[cycle(start)]
 fn work_from<R: Threads + Sync, B: Logged + Send + Sync, G: Gate + Sync>(
     rt: &R,

@@ -36,7 +36,7 @@ after-more cabinet_history (item ∷ items) more = after-more (with_item cabinet
 pub cabinet_history-more : (cabinet_history : CabinetHistory) (acts : List Act) (act : Act) → after cabinet_history (items_in (acts ++ act ∷ [])) ≡ with_item (after cabinet_history (items_in acts)) act.item
 cabinet_history-more cabinet_history acts act = ap (after cabinet_history) (items-more acts (act ∷ [])) ∙ after-more cabinet_history (items_in acts) (act.item ∷ [])
 
--- what each act tells, one after another
+-- what each act says, one after another
 pub told-more : {A : Type 0} (tells : CabinetHistory → Act → List A) (all : CabinetHistory → List Act → List A)
     → ((cabinet_history : CabinetHistory) → all cabinet_history [] ≡ [])
     → ((cabinet_history : CabinetHistory) (act : Act) (acts : List Act) → all cabinet_history (act ∷ acts) ≡ tells cabinet_history act ++ all (with_item cabinet_history act.item) acts)

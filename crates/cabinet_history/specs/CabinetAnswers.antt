@@ -1,4 +1,5 @@
--- What a cabinet tells of its items: the replies to frames, the ends of downloads, and the frames of ticks that have a line.
+-- What a cabinet says about its items: the replies to frames, the ends of downloads, and the frames of ticks that have
+-- a line.
 use Rattle.std.specs.Prelude.{ℕ, ◌+◌, List, [], ◌∷◌, ◌++◌, Option, Some, None, Ok, Err}
 use Rattle.arrayvec.specs.ArrayVec.{ArrayVec}
 use Rattle.sig_types.specs.declared.notes.StageAnswer.{StageAnswer}
@@ -30,7 +31,7 @@ use Rattle.cabinet_history.specs.Frames.{tick_written}
 abbrev pub set_of : List ℕ → PhaseSet
 set_of phases = record { 0 = bits (is_in phases) 16 1 }
 
--- what a cabinet shows beside its tables
+-- what a cabinet shows in addition to its tables
 abbrev pub shown_at : Past → Shown
 shown_at past = record {
   frame = frame_seen past;

@@ -1,4 +1,5 @@
--- The journal of a round: which pass brought the next item, time after time, in order. It tells what happened to the cabinet.
+-- The journal of a round: which pass brought the next item, time after time, in order. It says what happened to the
+-- cabinet.
 use Rattle.std.specs.Prelude.{ℕ, ◌+◌, ◌==◌, ◌≡◌, if◌then◌else◌, List, [], ◌∷◌, ◌++◌, length, replicate, get_or}
 use Rattle.sig_types.specs.Items.{Item, Ticked}
 

@@ -17,8 +17,8 @@ pub struct Load {
     pub result: Result<u32, Broken>,
 }
 
-/// What a cabinet tells of a frame: the pass that brought it, the octets of the answer, or silence, and the end of a load where
-/// the frame brought one.
+/// What a cabinet says about a frame: the pass that brought it, the octets of the answer, or silence, and the end of a
+/// load where the frame brought one.
 #[derive(PartialEq, Drop)]
 pub struct Reply {
     pub pass: u32,

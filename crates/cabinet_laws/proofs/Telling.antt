@@ -53,7 +53,7 @@ verify-tells id (WrongPart n) = refl
 verify-tells id NotVerified = refl
 verify-tells id (Refused b) = refl
 
--- an accepted finish puts tables in force and tells their version
+-- an accepted finish puts tables in force and gives their version
 finish-tells : (h : History) (next : Tables) (id : ℕ) (a : StageAnswer)
     → due (with_events h (installs next a)) ≡ due h ++ load_told (finish_end (past_at h).version id (Some a))
 finish-tells h next id Accepted = refl

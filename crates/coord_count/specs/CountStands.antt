@@ -7,7 +7,7 @@ use Rattle.coord_count.specs.declared.Count.{Count}
 abbrev pub counter_of : Count → ℕ
 counter_of count = count.counter
 
--- the greatest number of waits or skips that is kept: no limit is greater, so that more would tell nothing
+-- the greatest number of waits or skips that is kept: no limit is greater, so that more would say nothing
 abbrev pub greatest_kept : ℕ
 greatest_kept = 4294967295
 

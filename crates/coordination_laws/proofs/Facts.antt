@@ -1,4 +1,4 @@
--- What each tick of a lawful history tells: it seeks the pattern in command, is coordinated in it, or does neither.
+-- What each tick of a lawful history says: it seeks the pattern in command, is coordinated in it, or does neither.
 use Rattle.std.proofs.Common.{◌≡◌, ◌⊎◌, inl, inr, ℕ, ◌+◌, ◌*◌, ◌%◌, ◌<◌, ◌≤◌, ◌==◌, ◌&&◌, nat_le, Bool, true, false}
 use Rattle.std.proofs.Common.{if◌then◌else◌, List, [], ◌∷◌, refl, sym, ◌∙◌, ap, subst, arith}
 use Rattle.std.proofs.Math.Nat.{mod-lt}

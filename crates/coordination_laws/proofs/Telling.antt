@@ -1,4 +1,4 @@
--- What a quiet tick tells: and that the target continues as time does.
+-- What a quiet tick says: and that the target continues as time does.
 use Rattle.std.proofs.Common.{◌≡◌, ◌⊎◌, inl, inr, ℕ, ◌+◌, ◌-◌, ◌*◌, ◌/◌, ◌%◌, ◌<◌, Bool, true, false}
 use Rattle.std.proofs.Common.{not, nat_le, ◌==◌, ◌&&◌, ◌||◌, if◌then◌else◌, List, ◌∷◌, refl, sym, ◌∙◌, ap, arith}
 use Rattle.std.proofs.Math.Nat.{mod-eq_of_lt, mod-add-mod, mod-mod, mod-add-div', add-mul-mod_self_right}

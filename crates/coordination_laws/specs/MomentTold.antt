@@ -1,4 +1,5 @@
--- What the tick that gave a moment tells of it: its mode is what its command asks for, and its target what its clock asks for.
+-- What the tick that gave a moment says about it: its mode is what its command asks for, and its target what its clock
+-- asks for.
 use Rattle.std.specs.Prelude.{ℕ, ◌≡◌, ◌<◌, true, false}
 use Rattle.sig_types.specs.declared.frame.Mode.{Mode}
 use Rattle.sig_types.specs.declared.frame.Mode.TheVariants.{Free, Seek, Coord}

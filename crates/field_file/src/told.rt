@@ -145,7 +145,7 @@ fn told_whole(alloc: Global, bytes: &[u8]) -> Result<Vec<u8>, ReadFail>
 
 /// What a right field file says, read in parts, or the first fault of another, both in little memory. A try that reads
 /// all of a file finds a fault across its lists. Any other is looked for before the second try: where one is found, no
-/// names are counted. Lack of memory is also the answer for what none of these ways tells.
+/// names are counted. Lack of memory is also the answer for what none of these ways says.
 fn read_in_parts<'a>(alloc: Global, bytes: &'a [u8]) -> Result<Listed<'a>, ReadFail>
     ensures ok { IfOk result (λ l. (d : Data) × Reads bytes.now d × (file_faults d ≡ []) × (field_content l.field ≡ field_of d) × Writes l.text (held scenario d)) }
     ensures refused { IfErr result (λ fail. OnRefusal fail (IsFirstFieldFault bytes.now)) }

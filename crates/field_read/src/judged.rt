@@ -207,7 +207,7 @@ fn judge_text(alloc: Global, bytes: &[u8], extent: Extent) -> Option<Result<(), 
 }
 
 /// Judges the pulses of a field file, in a scenario of this extent: the refusal is their first fault. Lack of memory is
-/// also the answer for what this way does not tell, as of a text that is not an object.
+/// also the answer for what this way does not say, as of a text that is not an object.
 pub(crate) fn judge_pulses(alloc: Global, bytes: &[u8], extent: Extent) -> Result<(), ReadFail>
     ensures { (d : Data) → Reads bytes.now d → Answers result (field_faults [] d (pulses extent.rounds extent.cabinets)) (λ _. Unit {0}) }
 {

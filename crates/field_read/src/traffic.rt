@@ -1,4 +1,4 @@
-//! What a field file says beside its scenario.
+//! What a field file says in addition to its scenario.
 
 ghost use Rattle.serde_json.specs.View.{view};
 ghost use Rattle.scenario_read.specs.Fields.{fields_faults};

@@ -1,5 +1,5 @@
--- What a history tells: a line for each tick at which the frame shows something new or is a local zero, as a trace has them;
--- sums over all ticks, so that each one counts; and what is shown at the end.
+-- What a history says: a line for each tick at which the frame shows something new or is a local zero, as a trace has
+-- them; sums over all ticks, so that each one counts; and what is shown at the end.
 use Rattle.std.specs.Prelude.{ℕ, ◌+◌, ◌&&◌, not, if◌then◌else◌, List, [], ◌∷◌, ◌++◌, codes}
 use Rattle.sig_types.specs.declared.frame.Colour.{Colour}
 use Rattle.sig_types.specs.declared.frame.Colour.TheVariants.{Green, Yellow, Clear, Red}

@@ -56,7 +56,7 @@ newest-tells (suc n) (suc t) g older m past le some h = h.0
 newest-tells (suc n) zero g older m past le (inl one) h = absurd (omega arith)
 newest-tells (suc n) zero g older m past le (inr none) h = absurd (rw none at h)
 
--- what is kept of a moment is kept of one that continues with it, but for what its tick saw
+-- what is kept of a moment is kept of one that continues with it, except what its tick saw
 pub tells-again : (g : Sample) (last m : Moment) (q o : PhaseSet) → Tells g last → ShowsAgain m.frame last.frame
     → ((p : ℕ) → is_phase p ≡ true → has q p ≡ is_in m.quiet p) → ((p : ℕ) → is_phase p ≡ true → has o p ≡ is_in m.opposed p)
     → Tells (record g { quiet = q; opposed = o }) m

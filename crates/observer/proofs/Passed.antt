@@ -30,7 +30,7 @@ use Rattle.look_back.specs.Again.{FrameGoesOn, AllGoOn}
 use Rattle.look_back.specs.FrameHistories.{LooksOver}
 use Rattle.observer.specs.Inputs.{AreOn, seen-on}
 
--- what is remembered, but for what is looked over
+-- what is remembered, except what is looked over
 pub record ToldBack (on : PhaseSet) (past : Past) : Type 0 where
   pub inputs : AreOn on past
   pub within : (n : ℕ) → is_in_step (frame_seen past) past.version n ≡ true → (frame_seen past).counter < cycle_time past.tables n

@@ -1,4 +1,4 @@
--- What holds of the counter whatever the targets are.
+-- What holds of the counter for any targets.
 use Rattle.std.proofs.Common.{◌≡◌, ◌⊎◌, inl, inr, ℕ, zero, suc, Bool, true, false, not, nat_le, ◌==◌, ◌&&◌, ◌||◌, if◌then◌else◌, ◌+◌, ◌<◌, ◌≤◌, max, List, ◌∷◌, refl, sym, subst, arith}
 use Rattle.std.proofs.lemmas.Bool.{cases_order, leb-false, eqb-true}
 use Rattle.sig_tables.specs.Counting.{Correction, HasRoom, tick_later, ahead, adds_sooner, dwelling, adding, skipping, stands, last_step_changed, begins_cycle, next_counter, corrected, counter_after, last_counter, most_a_cycle}

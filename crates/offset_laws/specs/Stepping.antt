@@ -1,4 +1,4 @@
--- What holds of the counter whatever the targets are, even if a clock that is set moves them within a cycle.
+-- What holds of the counter for any targets, even if a clock that is set moves them within a cycle.
 use Rattle.std.specs.Prelude.{ℕ, zero, suc, true, ◌≡◌, ◌≤◌, ◌<◌, ◌⊎◌, ◌+◌, ◌-◌, List, ◌∷◌}
 use Rattle.sig_tables.specs.Counting.{Correction, next_counter, last_counter, stands, begins_cycle, most_a_cycle}
 use Rattle.tick_laws.specs.Steps.{Steps}

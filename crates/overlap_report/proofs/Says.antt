@@ -60,7 +60,7 @@ pub record Laws : Type 0 where
   pub versions : (h : History) (has : Frame → Frame → Bool) (cab : ℕ) (lines : List Line) → told_in cab lines ≡ history_told has h
       → downloads cab lines ≡ (past_at h).version
 
--- the run that the text tells
+-- the run that the text gives
 abbrev run_of : (text : List ℕ) (cab : ℕ) (seen : Seen) → HasSeen text cab seen → TellsOfRun text
 run_of text cab seen hs = record {
   scenario = hs.scenario;

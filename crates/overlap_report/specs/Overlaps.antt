@@ -1,5 +1,5 @@
 -- What is reported of an overlap at a cabinet of a trace: its text, or the first rule that it breaks. All is said of
--- the trace: of the run that it tells, of its lines, and of the tables that were in force at the cabinet.
+-- the trace: of the run that it gives, of its lines, and of the tables that were in force at the cabinet.
 use Rattle.std.specs.Prelude.{ℕ, ◌+◌, ◌≡◌, List, [], length, Result, Err}
 use Rattle.sig_tables.specs.declared.tables.Tables.{Tables}
 use Rattle.sig_tables.specs.Decide.{frames, past_at}

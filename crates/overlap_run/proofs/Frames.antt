@@ -22,7 +22,7 @@ put-told : (b : Bool) (n : ℕ) (g : Frame) → frames_told (if b then (n, g) �
 put-told true n g = refl
 put-told false n g = refl
 
--- the lines tell them
+-- the lines give them
 pub written-told : (has_line : Frame → Frame → Bool) (fs : List Frame) → frames_told (frames_written has_line fs) ≡ written has_line fs
 written-told has_line [] = refl
 written-told has_line (f ∷ []) = refl

@@ -10,7 +10,7 @@ use Rattle.overlap_run.specs.declared.overlap.Timing.{Timing}
 use Rattle.overlap_run.specs.Text.{overlap_text}
 use Rattle.overlap_run.specs.Street.{parent_green}
 
--- what frames with the numbers of their ticks tell
+-- what frames with the numbers of their ticks say
 abbrev pub frames_told : List (ℕ × Frame) → List (ℕ × Indications)
 frames_told [] = []
 frames_told (f ∷ frames) = (f.0, shown_by f.1) ∷ frames_told frames
@@ -34,6 +34,6 @@ pub record IsToldOf (cab : ℕ) (tables : ℕ → Tables) (lines : List Line) (b
   pub whole : Whole cab lines
   pub versions : AreByVersion by_version tables (downloads cab lines)
 
--- the text of an overlap at a cabinet, by the frame lines that tell of it
+-- the text of an overlap at a cabinet, by its frame lines
 abbrev pub text_of : Timing → List ℕ → ℕ → (ℕ → Tables) → List Line → ℕ → List ℕ
 text_of t parents cab tables lines ticks = overlap_text t (parent_green (intersection_of cab tables lines) parents) ticks

@@ -36,7 +36,7 @@ pub record PreemptsKeep (c : Preempts) (heard : List Heard) (past : List Moment)
 abbrev pub PreemptsStand : Preempts → Past → Type 0
 PreemptsStand c past = PreemptsKeep c past.heard past.moments
 
--- a moment continues with the last one beside all preempts: no input is on at it, and its frame has the mode of the
+-- a moment continues with the last one apart from all preempts: no input is on at it, and its frame has the mode of the
 -- last, which is not a dwell; what its rings have on are phases, or nothing
 pub record StaysBeside (past : Past) (m : Moment) : Type 0 where
   pub saw : m.preempts ≡ preempts_seen past

@@ -128,7 +128,7 @@ impl Preempts {
         self.mode = given.mode;
     }
 
-    /// A frame that continues with the last one beside all preempts.
+    /// A frame that continues with the last one apart from all preempts.
     pub fn stay(&mut self)
         requires few { step_count self.old < 4294967295 }
         ensures stands { (past : Past) (m : Moment) → PreemptsStand self.old past → StaysBeside past m
@@ -141,8 +141,8 @@ impl Preempts {
         self.steps += 1;
     }
 
-    /// Whether a frame of this mode continues with the last one beside all preempts: no input is on, no preempt dwells,
-    /// and the mode is that of the last frame.
+    /// Whether a frame of this mode continues with the last one apart from all preempts: no input is on, no preempt
+    /// dwells, and the mode is that of the last frame.
     fn is_beside(&self, mode: Mode) -> bool
         ensures none { IsTrue result → phases_of self.now.on ≡ [] }
         ensures dwell { IsTrue result → is_dwell mode ≡ false }

@@ -2,8 +2,7 @@
 //! goes back to the master. The state of a book, and the lines that are written of it, are those of a run.
 //!
 //! The closed loop of a run: the master, and the books of all cabinets. It is opened from a scenario, and each round is
-//! begun and ended here; others bring what reaches the cabinets in between, in whatever order. Nothing is read or
-//! written.
+//! begun and ended here; others bring what reaches the cabinets in between, in any order. Nothing is read or written.
 #![tactic(auto)]
 
 mod books;

@@ -136,7 +136,7 @@ lines-loads cab (J c runs ∷ lines) = lines-loads cab lines
 lines-loads cab (A c pass reply ∷ lines) = lines-loads cab lines
 lines-loads cab (Z rounds ∷ lines) = lines-loads cab lines
 
--- what the lines from one on tell, counted by the lines before it
+-- what the lines from one on say, counted by the lines before it
 from-line : (cab : ℕ) (lines before rest : List Line) → Counts 0 (told_in cab lines) → lines ≡ before ++ rest → Counts (downloads cab before) (told_in cab rest)
 from-line cab lines before rest h e =
     counts-from (0 + loads (told_in cab before)) (downloads cab before) (told_in cab rest)

@@ -26,7 +26,7 @@ use Rattle.scenario_cut.proofs.Kept.{whole-same, text-same, bare-number, master-
 use Rattle.scenario_cut.proofs.Judging.{no-first, refuses-same}
 use Rattle.scenario_cut.proofs.Verdicts.{tells-same}
 
--- ---- what is kept beside the lists
+-- ---- what is kept in addition to the lists
 
 is-setup : IsObject Setup
 is-setup = record { opens = refl; closed = refl }

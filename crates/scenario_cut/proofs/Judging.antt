@@ -1,4 +1,4 @@
--- What is known of the items of a list, one item at a time; and that what is kept of an item tells its first fault.
+-- What is known of the items of a list, one item at a time; and that what is kept of an item gives its first fault.
 use Rattle.std.proofs.Common.{◌≡◌, ◌≤◌, ◌<◌, ℕ, ◌+◌, List, [], ◌∷◌, ◌++◌, Option, Some, None, is_some, true, false, Result, Ok, Err, map, refl, sym, ap, ap₂, ◌∙◌, subst, arith, append_assoc, append-nil}
 use Rattle.std.specs.Result.{result_err}
 use Rattle.serde_json.specs.Data.{Data, Items, no_items, item}

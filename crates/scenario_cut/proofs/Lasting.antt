@@ -30,7 +30,7 @@ other-place a b low other same =
     let clash : true ≡ false = sym both ∙ other in
     absurd (cc)
 
--- what the numbers tell of a name
+-- what the numbers say about a name
 pub shown : (left : List ℕ) (name : List ℕ) (d : Data) → get_or left (place_in large_names name) 0 ≡ 0 → hidden left name d ≡ d
 shown left name d none = ap (λ n. if nat_lt 0 n then null else d) none
 

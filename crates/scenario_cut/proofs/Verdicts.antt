@@ -1,4 +1,4 @@
--- What the items of a list tell of the list, and what is at its name of the scenario.
+-- What the items of a list say about the list, and what is at its name of the scenario.
 use Rattle.std.proofs.Common.{◌≡◌, ◌≢◌, ◌≤◌, ◌<◌, ℕ, ◌+◌, ◌&&◌, nat_le, Bool, true, false, if◌then◌else◌, List, [], ◌∷◌, ◌++◌, Option, Some, None, is_some, unwrap_or, bytes_eq, refl, sym, ap, ap₂, ◌∙◌, subst, arith}
 use Rattle.std.proofs.lemmas.Bool.{leb-true, leb-false}
 use Rattle.std.proofs.lemmas.Slice.Eq.{bytes_eq-Decides}
@@ -67,7 +67,7 @@ many-same Priority count len p q = both-past 0 100000 1000000 count len (omega a
 many-same Frames count len p q = both-past 0 100000 1000000 count len (omega arith) p q
 many-same Faults count len p q = both-past 0 100000 1000000 count len (omega arith) p q
 
--- what was counted tells whether there may be that many
+-- what was counted says whether there may be that many
 pub may-same : (l : Listing) (count len : ℕ) → Counted (most_judged l) count len → may_have l count ≡ may_have l len
 may-same l count len c = at (nat_le count (most_judged l)) refl
   where

@@ -77,7 +77,7 @@ abbrev pub Tells : Option ReadFail → List Cause → Type 0 → Type 0
 Tells None causes P = (causes ≡ []) × P
 Tells (Some fail) causes P = Refuses fail causes
 
--- up to that many items what was judged tells of the whole list: of cabinets as many as are allowed there
+-- up to that many items what was judged says about the whole list: of cabinets as many as are allowed there
 abbrev pub most_judged : Listing → ℕ
 most_judged Cabinets = 64
 most_judged Inputs = 1000000

@@ -161,7 +161,7 @@ fn judge_value(
     }
 }
 
-/// What is known of the lists of the scenario of a text; none, where this way does not tell.
+/// What is known of the lists of the scenario of a text; none, where this way does not say.
 pub(crate) fn known_of(alloc: Global, bytes: &[u8], around: Around, search: Search) -> Option<Known>
     ensures { IfSome result (λ known. (d : Data) × Reads bytes.now d × Knows search known (scenario_in around d)) }
 {

@@ -82,8 +82,8 @@ fn within_ticks(alloc: Global, cabinets: usize, head: Head) -> Result<(), ReadFa
     }
 }
 
-/// The checks after the numbers, of a text of whose scenario this is kept beside its lists: the extent of the scenario,
-/// or its first fault.
+/// The checks after the numbers, of a text of whose scenario this is kept in addition to its lists: the extent of the
+/// scenario, or its first fault.
 fn judge_behind(
     alloc: Global,
     bytes: &[u8],
@@ -129,8 +129,8 @@ fn judge_behind(
     }
 }
 
-/// The extent of the scenario of a text, of which this is kept beside its lists, or its first fault. Lack of memory is
-/// also the answer for what this way does not tell.
+/// The extent of the scenario of a text, of which this is kept in addition to its lists, or its first fault. Lack of
+/// memory is also the answer for what this way does not say.
 fn fault_of(alloc: Global, bytes: &[u8], around: Around, setup: &Value) -> Result<Extent, ReadFail>
     ensures { (d : Data) → Reads bytes.now d → view setup.now ≡ cut Setup (scenario_in around d)
         → Answers result (faults (scenario_in around d)) (λ e. e ≡ extent_of (scenario_in around d)) }
@@ -145,7 +145,7 @@ fn fault_of(alloc: Global, bytes: &[u8], around: Around, setup: &Value) -> Resul
     }
 }
 
-/// Judges a scenario's text in little memory. Lack of memory is also the answer for what this way does not tell.
+/// Judges a scenario's text in little memory. Lack of memory is also the answer for what this way does not say.
 pub(crate) fn first_fault(alloc: Global, bytes: &[u8]) -> Result<(), ReadFail>
     ensures { IfErr result (λ fail. OnRefusal fail (IsFirstFault bytes.now)) }
 {

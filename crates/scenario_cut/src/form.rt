@@ -1,5 +1,5 @@
-//! The places of a value that is read, by what may open there and how much of it is kept: a scenario, and the objects around one
-//! that ask of through bands or tell of detectors.
+//! The places of a value that is read, by what may open there and how much of it is kept: a scenario, and the objects
+//! around one that ask for progression bands or describe detectors.
 
 ghost use Rattle.std.specs.Prelude.{◌≡◌, ◌<◌, ◌≤◌, ◌+◌, bytes_eq, if◌then◌else◌};
 ghost use Rattle.serde_json.specs.View.{view};

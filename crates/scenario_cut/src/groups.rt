@@ -60,7 +60,8 @@ fn any_stands(setup: &Value, group: Group) -> bool
     }
 }
 
-/// What is known of the lists of a text's scenario, of which this is kept beside its lists; none, where this way does not tell.
+/// What is known of the lists of a text's scenario, of which this is kept in addition to its lists; none, where this
+/// way does not say.
 fn known_in(
     alloc: Global,
     bytes: &[u8],
@@ -80,7 +81,7 @@ fn known_in(
 }
 
 /// Judges the cabinets of a text's scenario: what stays of them, or their first fault. Lack of memory represents what
-/// this way does not tell.
+/// this way does not say.
 pub(crate) fn judge_cabinets(
     alloc: Global,
     bytes: &[u8],
@@ -125,7 +126,7 @@ fn first_of(known: Known) -> Result<(), ReadFail>
 }
 
 /// Judges what happens in the rounds of a text's scenario. Lack of memory is also the answer for what this way does not
-/// tell.
+/// say.
 pub(crate) fn judge_events(
     alloc: Global,
     bytes: &[u8],

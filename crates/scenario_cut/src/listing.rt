@@ -1,5 +1,5 @@
 //! A list at the top of a scenario, judged item by item. After its first fault, and past the most that are judged, the
-//! items are skipped; so that no list takes more than one item's memory, beside what stays of the items.
+//! items are skipped; so that no list takes more than one item's memory, in addition to what stays of the items.
 
 ghost use Rattle.std.specs.Prelude.{◌≡◌, ◌<◌, ◌≤◌, [], length, Some, IfSome};
 ghost use Rattle.json.specs.Json.{value, items};
@@ -42,8 +42,8 @@ pub(crate) fn nothing(alloc: Global) -> Found
     }
 }
 
-/// Up to how many items what was judged tells of the whole list: of cabinets as many as are allowed there. One more is
-/// judged.
+/// Up to how many items what was judged says about the whole list: of cabinets as many as are allowed there. One more
+/// is judged.
 fn most_judged(list: Listing) -> usize
     ensures most { result ≡ most_judged list }
     ensures few { result ≤ 1000000 }

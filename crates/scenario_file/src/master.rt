@@ -30,7 +30,7 @@ pub(crate) const MASTER_NAMES: [&str; 6] = [
     "schedule",
 ];
 
-/// A master but for its schedule, and this.
+/// A master except its schedule, and this.
 #[derive(Drop)]
 pub(crate) struct Master<'a> {
     pub members: Map<String, Value>,

@@ -1,5 +1,5 @@
-//! A text that is one object around a scenario, read name by name into parts, of whatever kind these are. Of equal
-//! names the last counts; if they were counted beforehand, only the last is read.
+//! A text that is one object around a scenario, read name by name into parts of any kind. Of equal names the
+//! last counts; if they were counted beforehand, only the last is read.
 
 ghost use Rattle.std.specs.Prelude.{◌≡◌, ◌<◌, length, Some, IfSome, IsUtf8};
 ghost use Rattle.json.specs.Json.{value, members};

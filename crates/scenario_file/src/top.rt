@@ -22,7 +22,7 @@ use scenario_cut::pass;
 use serde_json::{Map, Value};
 use std::alloc::Global;
 
-/// A scenario's value but for its lists, and these.
+/// A scenario's value except its lists, and these.
 #[derive(Drop)]
 pub(crate) struct Whole<'a> {
     pub frame: Map<String, Value>,

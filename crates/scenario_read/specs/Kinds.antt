@@ -117,7 +117,7 @@ abbrev pub each : Kind → List Step → ℕ → Items → List Cause
 each kind path place no_items = []
 each kind path place (item d ds) = kind (then_item path place) d ++ each kind path (place + 1) ds
 
--- a list of least to most items fits, whatever its items are
+-- a list of least to most items fits, for any items
 abbrev pub list_fits : ℕ → ℕ → Data → Fit
 list_fits least most null = Wrong
 list_fits least most (boolean b) = Wrong

@@ -24,9 +24,9 @@ pub all-map : {X : Type 0} (P Q : X → Type 0) → ((x : X) → P x → Q x) �
 all-map P Q turn [] all = tt
 all-map P Q turn (x ∷ xs) all = (turn x all.0, all-map P Q turn xs all.1)
 
--- ---- lines that tell of a cabinet
+-- ---- lines about a cabinet
 
--- the line tells of this cabinet, and is not a journal
+-- the line is about this cabinet, and is not a journal
 pub record IsToldOf (cab : ℕ) (line : Line) : Type 0 where
   pub street : is_of_street line ≡ false
   pub journal : (n : ℕ) → is_journal_of n line ≡ false

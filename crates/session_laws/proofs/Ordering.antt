@@ -109,7 +109,7 @@ seen-append cab xs a b c ys d e f one two = record {
   of_told = filter-append (is_told_of cab) xs ys ∙ ap (λ (x : List Line). x ++ filter (is_told_of cab) ys) one.of_told ∙ ap (λ (x : List Line). c ++ x) two.of_told;
 }
 
--- lines that each cabinet tells of itself
+-- lines of each cabinet about itself
 told-seen : (lines : ℕ → CabinetState → List Line) → ((n : ℕ) (t : CabinetState) → AreToldOf n (lines n t)) → (cab : ℕ) (t : CabinetState) (ts : List CabinetState)
     → HasComeTo cab t 1 ts → Seen (each lines 1 ts) [] [] (lines cab t) cab
 told-seen lines are cab t ts come = record {
@@ -179,7 +179,7 @@ journals-seen s steps cab t ts come =
 
 -- ---- a round
 
--- what is reported in a round, but for its number
+-- what is reported in a round, except its number
 abbrev pub body_lines : ScenarioContent → List CabinetState → List Step → List Line
 body_lines s ts steps = (notes_lines s 1 ts ++ each_begin s 1 ts) ++ (steps_lines s ts [] steps ++ each_journal s 1 ts steps)
 
@@ -201,7 +201,7 @@ told-by-acts s cab t steps =
     ap (λ (x : List Act). begun_of s cab t ++ acts_lines cab (after t.cabinet_history (items_in x)) (steps_acts cab steps)) (append-nil (begin_acts s cab t))
     ∙ sym (lines-append cab t.cabinet_history (begin_acts s cab t) (steps_acts cab steps))
 
--- what a cabinet tells in a round
+-- what a cabinet says in a round
 abbrev told_of : ScenarioContent → List Step → ℕ → CabinetState → List Line
 told_of s steps n t = acts_lines n t.cabinet_history (session_acts s n t steps)
 

@@ -103,7 +103,7 @@ told_with s h lines = rounds_told s h.closed ++ in_trace_order (length s.cabinet
 abbrev told_whole : ScenarioContent → List (List Step) → List Line
 told_whole s all = rounds_told s all ++ Z (length all) ∷ []
 
--- the answers from here on tell all rounds from here on
+-- the answers from here on give all rounds from here on
 abbrev TellsFrom : ScenarioContent → SessionHistory → List (List ℕ) → Type 0
 TellsFrom s h lines = told_with s h (lines_in (answers_from s h lines)) ≡ told_whole s (rounds_from s h lines)
 

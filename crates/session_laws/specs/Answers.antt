@@ -14,7 +14,7 @@ use Rattle.session_words.specs.declared.request.Untaken.TheVariants.{Full}
 use Rattle.session_words.specs.Requests.{request_of}
 use Rattle.session_laws.specs.Session.{SessionHistory, Step, Ticks, opened_session, step_of, step_acts, begin_acts, session_acts, history_by, states_after, ticks_left, items_brought, steps_with, is_last, with_step, steps_to_end, is_over}
 
--- the passes of these acts, which are the journal that tells them
+-- the passes of these acts, which are the journal that gives them
 abbrev pub passes_in : List Act → List ℕ
 passes_in [] = []
 passes_in (act ∷ acts) = act.pass ∷ passes_in acts
@@ -53,7 +53,7 @@ abbrev pub end_lines : ScenarioContent → SessionHistory → List Step → List
 end_lines s h steps =
     each_journal s 1 (states_after s h.closed) steps ++ next_lines s (length h.closed + 1) (states_after s (steps ∷ h.closed))
 
--- the lines of a step: what the cabinets tell, and where it is the last of its round, the end of that
+-- the lines of a step: what the cabinets say, and where it is the last of its round, the end of that
 abbrev pub step_lines : ScenarioContent → SessionHistory → Step → List Line
 step_lines s h step =
     each_step s 1 (states_after s h.closed) h.steps step ++ (if is_last s h step then end_lines s h (steps_with h step) else [])

@@ -216,7 +216,7 @@ pub ended-told : (held more : List ℕ) (left new : Option (List ℕ)) → ahead
 ended-told held more left new same kept none ended =
     sym (ahead-none left) ∙ ap (λ (h : List ℕ). ahead_of h left) (sym none) ∙ sym same ∙ ap (λ (h : List ℕ). ahead_of h new) (kept ∙ none) ∙ ahead-none new ∙ ended
 
--- at least that many bytes of a source were read, where it tells them
+-- at least that many bytes of a source were read, if it reports them
 abbrev pub HasRead : ℕ → Option (List ℕ) → Option (List ℕ) → Type 0
 HasRead n None new = Unit {0}
 HasRead n (Some bytes) None = ⊥

@@ -53,11 +53,11 @@ abbrev pub unless_broken : Result (Unit {0}) Broken → StageAnswer → StageAns
 unless_broken (Ok fit) answer = answer
 unless_broken (Err b) answer = Refused b
 
--- the first rule that the tables break beside those in force, if any
+-- the first rule that the tables break together with those in force, if any
 unfoldable pub first_broken : Tables → Tables → Bool → Result (Unit {0}) Broken
 first_broken t in_force flashing = first_of (broken t in_force flashing)
 
--- this answer, or the first rule that the tables break beside those in force
+-- this answer, or the first rule that the tables break together with those in force
 abbrev pub judged : Tables → Tables → Bool → StageAnswer → StageAnswer
 judged t in_force flashing answer = unless_broken (first_broken t in_force flashing) answer
 

@@ -68,7 +68,7 @@ impl Stage {
         answer
     }
 
-    /// The first rule that the staged tables break beside those in force.
+    /// The first rule that the staged tables break together with those in force.
     #[tactic(auto, unfolding(crate::specs::Answers::first_broken))]
     fn judged(&self, in_force: &Tables, flashing: bool) -> Result<(), Broken>
         ensures { result ≡ first_broken self.now.tables in_force.now flashing }

@@ -1,4 +1,4 @@
--- From what an answer to `run` tells to the answer expected for an input.
+-- From what an answer to `run` says to the answer expected for an input.
 use Rattle.std.proofs.Common.{◌≡◌, ◌<◌, ◌≤◌, ◌⊎◌, inl, inr, ℕ, List, Option, Some, None, IfSome, length, subst, refl, arith}
 use Rattle.scenario_data.specs.Content.{ScenarioContent}
 use Rattle.scenario_data.specs.declared.refusal.Refusal.{Refusal}
@@ -10,7 +10,8 @@ use Rattle.station.specs.Io.{io}
 use Rattle.station.specs.Answers.{IsShort, IsRead, IsRefused, Ran, RunAnswer, IsDue, IsLengthRefusal, WritesText}
 use Rattle.station.specs.Replied.{IsTextOfInput, Replied, ReplyAnswer, IsReplyDue}
 
--- what a refusal tells where nothing but it is the answer: the length's where the input is too long, and else a first fault
+-- what a refusal says where nothing but it is the answer: the length's where the input is too long, and else a first
+-- fault
 module _ (IsFirst : List ℕ → Refusal → Type 0) where
   refused_long : (refusal : Refusal) (input : List ℕ) (ends : Option (List ℕ)) → IsRefused IsFirst refusal (Some input) ends → 16777216 < length input
       → IsLengthRefusal (Scenario refusal)
@@ -59,7 +60,7 @@ due workers ReadFault (Some input) ends unread old new unwritten ran sound = abs
 due workers WriteFault (Some input) ends unread old new unwritten ran sound = inl (due_run WriteFault input ran.1.scenario unwritten ran.1.input (λ put. absurd (put ran.0)))
 due workers NoMemory (Some input) ends unread old new unwritten ran sound = inr refl
 
--- what an answer to a run tells, and that it is expected
+-- what an answer to a run says, and that it is expected
 pub run_answer : (workers : ℕ) (status : Status) (left ends : Option (List ℕ)) (unread : Type 0) (old new : Option (List ℕ)) (unwritten : Type 0)
     → Ran workers status (io left ends unread old new unwritten) → RunAnswer workers status (io left ends unread old new unwritten)
 run_answer workers status left ends unread old new unwritten ran = record {

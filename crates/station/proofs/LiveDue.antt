@@ -1,4 +1,4 @@
--- From what an answer to `live` tells to the answer expected for an input.
+-- From what an answer to `live` says to the answer expected for an input.
 use Rattle.std.proofs.Common.{◌≡◌, ◌≤◌, ◌⊎◌, inl, inr, ℕ, List, Option, Some, None, IfSome, length, refl, ap, ◌∙◌, subst, arith}
 use Rattle.std.specs.Option.{option_map}
 use Rattle.scenario_data.specs.Causes.{Limit as LimitCause, Names}
@@ -71,7 +71,7 @@ due WriteFault (Some input) ends unread old new unwritten lived sound =
     inl (due_session WriteFault input lived.1.scenario lived.1.requests unwritten lived.1.input (λ put. absurd (put lived.0)))
 due NoMemory (Some input) ends unread old new unwritten lived sound = inr refl
 
--- what an answer to `live` tells, and that it is expected
+-- what an answer to `live` says, and that it is expected
 pub live_answer : (status : Status) (left ends : Option (List ℕ)) (unread : Type 0) (old new : Option (List ℕ)) (unwritten : Type 0)
     → Lived status (io left ends unread old new unwritten) → LiveAnswer status (io left ends unread old new unwritten)
 live_answer status left ends unread old new unwritten lived = record {

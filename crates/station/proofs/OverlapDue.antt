@@ -1,4 +1,4 @@
--- From what an answer to `overlaps` tells to the answer expected for an input.
+-- From what an answer to `overlaps` says to the answer expected for an input.
 use Rattle.std.proofs.Common.{◌≡◌, ◌⊎◌, inl, inr, ℕ, List, Option, Some, None, IfSome, subst, refl, sym, ap}
 use Rattle.overlap_run.specs.declared.faults.OverlapFault.{OverlapFault}
 use Rattle.command_words.specs.declared.command.Overlap.{Overlap}

@@ -283,7 +283,7 @@ opening_stops NoMemory text failed old new s other same told = absurd told
 pub opening_undone : (failed : Type 0) (old new : Option (List ℕ)) (s : ScenarioContent) (status : Status) → StopsAtOpening status failed old new s → status ≡ Done → ⊥
 opening_undone failed old new s status stops is = let told : StopsAtOpening Done failed old new s = subst (λ (x : Status). StopsAtOpening x failed old new s) is stops in told
 
--- the requests of the input, where the source tells its bytes
+-- the requests of the input, if the source reports its bytes
 requests_told : Option (List ℕ) → List (List ℕ)
 requests_told None = []
 requests_told (Some input) = requests_in input

@@ -37,7 +37,7 @@ pub record HasTraceFault (fault : TraceFault) (left ends : Option (List ℕ)) : 
 abbrev pub IsNoTrace : TraceFault → Option (List ℕ) → Option (List ℕ) → Type 0
 IsNoTrace fault left ends = ((fault ≡ record { line = 0; rule = 1 }) × IsTooLongText left ends) ⊎ HasTraceFault fault left ends
 
--- what an answer tells, with the faults of reading
+-- what an answer says, with the faults of reading
 abbrev pub Checked : Status → Option (List ℕ) → Option (List ℕ) → Type 0 → Type 0
 Checked Done left ends unread = IsTraceRead left ends
 Checked (NotATrace fault) left ends unread = IsNoTrace fault left ends

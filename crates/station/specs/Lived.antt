@@ -64,7 +64,7 @@ pub record HasLineFault (refusal : Refusal) (left : Option (List ℕ)) : Type 0 
 abbrev pub IsLineRefused : Refusal → Option (List ℕ) → Type 0
 IsLineRefused refusal left = (IsLengthLimit refusal × IsTooLongLine left) ⊎ ((IsLengthLimit refusal → ⊥) × HasLineFault refusal left)
 
--- what an answer to `live` tells of the input and the output
+-- what an answer to `live` says about the input and the output
 abbrev pub Lived : Status → Io → Type 0
 Lived Done io = LivesWhole io.left io.old io.new
 Lived (Scenario refusal) io = IsLineRefused refusal io.left × (io.new ≡ io.old)

@@ -21,7 +21,7 @@ pub record IsOpened (left behind : Option (List ℕ)) (s : ScenarioContent) : Ty
   pub base : IsBase line s
   pub rest : behind ≡ behind_told left
 
--- the requests of the input are these lines and then those that are still ahead, where the source tells its bytes
+-- the requests of the input are these lines and then those that are still ahead, if the source reports its bytes
 abbrev pub AreAhead : Option (List ℕ) → Option (List ℕ) → List (List ℕ) → Type 0
 AreAhead None ahead lines = Unit {0}
 AreAhead (Some input) ahead lines = (rest : List ℕ) × (ahead ≡ Some rest) × (requests_in input ≡ lines ++ whole_lines rest)

@@ -135,7 +135,8 @@ pub fn station<R: Threads + Sync, S: Source, K: Sink, G: Gate + Sync>(
     ensures unread { NeedsNoInput (map string_bytes words.now.items) → source.new ≡ source.old }
     ensures unwritten { IsCheck (map string_bytes words.now.items) → sink.new ≡ sink.old }
 
-    // What the answer tells of what was read and written, by the words: a record for each command, and the causes of an answer.
+    // What the answer says about what was read and written, by the words: a record for each command, and the causes of
+    // an answer.
     ensures answers { Answers (map string_bytes words.now.items) result
         (io_of S.left S.faults K.written K.faults source.old source.new sink.old sink.new) }
 

@@ -1,4 +1,4 @@
--- What both engines keep beside past frames is what the past gives.
+-- What both engines keep in addition to past frames is what the past gives.
 use Rattle.std.specs.Prelude.{ℕ, ◌≡◌, ◌<◌, ◌≤◌, true, length}
 use Rattle.sig_tables.specs.Slots.{cycle_time}
 use Rattle.sig_tables.specs.Choosing.{is_in_step}

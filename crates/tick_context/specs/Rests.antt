@@ -7,7 +7,7 @@ use Rattle.sig_tables.specs.Ticking.{on_of}
 use Rattle.sig_tables.specs.Decide.{next_moment}
 use Rattle.sig_tables.specs.Seen.{frame_seen, mode_seen}
 
--- the last frame has what a frame of Free has by the tables in force, beside its colours and signals
+-- the last frame has what a frame of Free has by the tables in force, in addition to its colours and signals
 pub record IsCurrent (past : Past) : Type 0 where
   pub version : (frame_seen past).version ≡ past.version
   pub counter : (frame_seen past).counter ≡ 0

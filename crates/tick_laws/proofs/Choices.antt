@@ -47,7 +47,7 @@ same-is Clear Clear h = refl
 same-is Red Red h = refl
 same-is _ _ h = absurd (false≢true h)
 
--- two colours that a test tells apart
+-- two colours that a test distinguishes
 pub differs : (x c : Colour) → same_colour x c ≡ false → x ≡ c → ⊥
 differs x c f e = both_ways (same_colour x c) f (ap (λ (y : Colour). same_colour y c) e ∙ same-self c)
 

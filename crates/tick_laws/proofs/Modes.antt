@@ -62,7 +62,7 @@ pub sought-goes : (t : Tables) (v n : ℕ) (on : List ℕ) (past : List Moment) 
     → ModeGoesOn t v (last_frame past) (mode_sought t v n on past)
 sought-goes t v n on past k = after (last_frame past).mode t v n on past k
 
--- modes that a test tells apart, by the pattern that they name
+-- modes that a test distinguishes, by the pattern that they name
 abbrev is_coord : Mode → Bool
 is_coord (Coord n) = true
 is_coord mode = false

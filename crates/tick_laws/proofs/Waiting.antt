@@ -101,7 +101,7 @@ vehicle-served past p ph green =
 
 -- ---- a call that remains is demand
 
--- a tick wants each enabled Red phase that it sees called, but for one that the pattern omits
+-- a tick wants each enabled Red phase that it sees called, except one that the pattern omits
 in-demand : (pattern : Option ℕ) (t : Tables) (f : Frame) (vehicle pedestrian detectors : List ℕ) (p : ℕ) → is_phase p ≡ true
     → is_in vehicle p ≡ true → is_enabled t p ≡ true → same_colour (colour_of f p) Red ≡ true → omits pattern t p ≡ false
     → is_in (demand_in pattern t f vehicle pedestrian detectors) p ≡ true

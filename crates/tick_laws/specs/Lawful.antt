@@ -44,8 +44,8 @@ is_dark Start = true
 is_dark Flash = true
 is_dark _ = false
 
--- the event may come after these: tables that are put in force are sound, and have the layout of those before them, but for
--- those put in force while nothing is on
+-- the event may come after these: tables that are put in force are sound, and have the layout of those before them,
+-- except those put in force while nothing is on
 abbrev pub IsLawfulAfter : Tables → List Event → Event → Type 0
 IsLawfulAfter opening before (Install t) =
     Sound t × ((is_dark (last_frame (past_of opening before).moments).mode ≡ true) ⊎ SameLayout (past_of opening before).tables t)

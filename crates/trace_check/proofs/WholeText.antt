@@ -44,7 +44,7 @@ use Rattle.trace_check.proofs.Walking.{leads-here, leads-on}
 use Rattle.trace_check.proofs.Taking.{said-text, texts-on, nothing-behind, after-round, merges-round, lines-round, after-many}
 use Rattle.trace_check.proofs.Watched.{come-at, numbered-at, opened-many}
 
--- that many rounds were read, by journals that the text tells; what was seen is what the cabinets have reached by these
+-- that many rounds were read, by journals that the text gives; what was seen is what the cabinets have reached by these
 pub record RoundsSoFar (s : ScenarioContent) (first : List CabinetState) (start at : Place) (done : ℕ) (c : ClosedLoop) (watched : ℕ) (old now : Seen) : Type 0 where
   pub journals : List (List (List ℕ))
   pub many : length journals ≡ done
@@ -173,7 +173,7 @@ has-seen law text cab seen is = record {
 pub behind-end : (at : Place) → at.left.now ≢ [] → FaultsAt Ends at.left.now at.line at.line 11
 behind-end at some = stops-here Ends at.left.now at.line 11 (Beyond at.left.now refl some)
 
--- or in one whose text has a fault, or is not the compact text of what it tells
+-- or in one whose text has a fault, or is not the compact text of what it says
 pub refused-told : (json : List ℕ) → ((s : ScenarioContent) → IsScenario json s → ⊥) → (s : ScenarioContent) → Opens (S json) s → ⊥
 refused-told json none s opens =
     let same : json ≡ s.compact = cc (opens.0) in
@@ -239,11 +239,11 @@ fault-answer none one text (Err (NotATrace g)) tells f first =
     inl (ap (λ (x : TraceFault). Err (NotATrace x)) (same-fault g f line rule))
 fault-answer none one text (Err NoMemory) tells f first = inr refl
 
--- the answer where the first line tells no scenario
+-- the answer where the first line has no scenario
 pub none-by : (json : List ℕ) (fail : CheckFail) → fail ≡ NotATrace (record { line = 1; rule = 3 }) → ((s : ScenarioContent) → Opens (S json) s → ⊥) → TellsNone (S json) fail
 none-by json fail is none = subst (λ (x : CheckFail). TellsNone (S json) x) (sym is) (none, refl, refl)
 
--- what a trace tells
+-- what a trace says
 pub kept-answer : ((text : List ℕ) → IsTrace text → TellsOfRun text) → (text : List ℕ) (result : Result (Unit {0}) CheckFail) → Tells text result
     → OnOk result (TellsOfRun text)
 kept-answer law text (Ok done) tells = law text tells.0

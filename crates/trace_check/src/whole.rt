@@ -142,7 +142,7 @@ fn are_same(bytes: &[u8], others: &[u8]) -> bool
     bytes == others
 }
 
-/// The scenario that a text tells by its compact text.
+/// The scenario that a text gives by its compact text.
 fn scenario_told(alloc: Global, json: &[u8]) -> Result<Scenario, CheckFail>
     ensures told { IfOk result (λ s. Opens (LineRow.S json.now) (scenario_content s)) }
     ensures runnable { IfOk result (λ s. Runnable (scenario_content s)) }
@@ -162,7 +162,7 @@ fn scenario_told(alloc: Global, json: &[u8]) -> Result<Scenario, CheckFail>
     }
 }
 
-/// The scenario that a first line tells.
+/// The scenario that a first line has.
 fn scenario_of(alloc: Global, line: &Line) -> Result<Scenario, CheckFail>
     ensures told { IfOk result (λ s. Opens line.now (scenario_content s)) }
     ensures runnable { IfOk result (λ s. Runnable (scenario_content s)) }

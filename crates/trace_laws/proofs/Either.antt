@@ -74,7 +74,7 @@ no-way-out (Hears cab streams next) (b ∷ bytes) line n =
     (stops-here (Hears cab streams next) (line_text l ++ left) line (rule_for (J cab []) l)
     (Other l left (rule_for (J cab []) l) is ((λ journal same merge. heard journal left merge (e ∙ ap (λ (x : Line). line_text x ++ left) same)), refl)))))
 
--- a first line that tells a scenario
+-- a first line that has a scenario
 opened : (s : ScenarioContent) (first : Line) (left : List ℕ) → IsCheckable (line_text first ++ left) → Opens first s → (IsTrace (line_text first ++ left) → ⊥)
     → ((line rule : ℕ) → FirstFault (line_text first ++ left) line rule → ⊥) → ⊥
 opened s first left few opens untrue faultless =

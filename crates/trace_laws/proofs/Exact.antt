@@ -1,4 +1,4 @@
--- A text with a fault is not a trace: by what it is for a line's text to tell the line.
+-- A text with a fault is not a trace: by what it means that a line's text describes the line.
 use Rattle.std.proofs.Common.{◌≡◌, ◌∙◌, ℕ, suc, List, [], ◌∷◌, ◌++◌, length, refl, sym, ap, subst, append_assoc}
 use Rattle.trace_text.specs.declared.lines.Line.{Line}
 use Rattle.trace_text.specs.Line.{line_text}

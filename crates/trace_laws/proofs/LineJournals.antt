@@ -160,7 +160,7 @@ as-long : (journal : List ℕ) → AllEarly journal → length journal ≤ five-
 as-long [] early = omega arith
 as-long (p ∷ journal) early = omega (arith, one-of-five p journal early.0, as-long journal early.1)
 
--- streams that a journal can tell: some ticks, and not too many items
+-- streams that a journal can describe: some ticks, and not too many items
 pub record CanBeTold (streams : List (List Item)) : Type 0 where
   pub five : AreFive streams
   pub few : (p : ℕ) → p < 4 → length (get_or streams p []) ≤ 1000000

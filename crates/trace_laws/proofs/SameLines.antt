@@ -1,4 +1,4 @@
--- The words of a line tell the line, and so does its text.
+-- The words of a line give the line, and so does its text.
 use Rattle.std.proofs.Common.{◌≡◌, ℕ, ℤ, ◌<◌, ◌^◌, List, [], ◌∷◌, ◌++◌, get_or, drop, decimal, Option, Result, Ok, Err, refl, sym, ap, ◌∙◌, arith}
 use Rattle.std.proofs.Common.{◌==◌, append-nil}
 use Rattle.std.proofs.lemmas.List.{append_cancel_right}
@@ -122,7 +122,7 @@ same_load cab id (Err x) c i (Err y) low small fits below less also e =
 same_load cab id (Ok version) c i (Err y) low small fits below less also e = absurd (let told : 97 ≡ 114 = first_told 3 _ _ e in omega (arith, told))
 same_load cab id (Err x) c i (Ok v) low small fits below less also e = absurd (let told : 114 ≡ 97 = first_told 3 _ _ e in omega (arith, told))
 
--- the first word tells the kind
+-- the first word gives the kind
 kinds_told : (a b : Line) → line_words a ≡ line_words b → kind a ≡ kind b
 kinds_told a b e =
     let same : kind a ∷ [] ≡ kind b ∷ [] = sym (first_word a) ∙ word_told 0 _ _ e ∙ first_word b in

@@ -35,7 +35,7 @@ unended-no-line : (bytes : List ℕ) → Lacks 10 bytes → IsNoLine bytes
 unended-no-line bytes lacks line is e =
     held 10 (front line) [] (subst (λ (x : List ℕ). Lacks 10 x) (e ∙ front_ended line) lacks)
 
--- a number that tells the lines below apart
+-- a number that distinguishes the lines below
 abbrev mark : Line → ℕ
 mark (F cab tick veh ped mode counter target version) = colour_letter (get_or veh 0 Red)
 mark (R round) = 100 + round

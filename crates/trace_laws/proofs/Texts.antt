@@ -1,4 +1,4 @@
--- What the texts of lines tell, and that the lines of a prefix are lines of a trace.
+-- What the texts of lines say, and that the lines of a prefix are lines of a trace.
 use Rattle.std.proofs.Common.{◌≡◌, ◌∙◌, ◌+◌, ◌==◌, ℕ, false, List, [], ◌∷◌, ◌++◌, length, refl, sym, ap, arith, append_assoc}
 use Rattle.std.proofs.lemmas.Bool.{ne_eqb}
 use Rattle.std.proofs.lemmas.List.{length-append}

@@ -51,7 +51,7 @@ stops-here a text line rule stops = record {
   fault = record { before = []; left = text; split = refl; place = refl; mid = a; goes = refl; stops = stops };
 }
 
--- after a first line that tells a scenario, the text leads to the end: it is a trace
+-- after a first line that has a scenario, the text leads to the end: it is a trace
 pub whole-is-trace : (s : ScenarioContent) (first : Line) (left : List ℕ) (next : ℕ) → Opens first s → Walks (script_of s) left 2 Ends [] next → IsTrace (line_text first ++ left)
 whole-is-trace s first left next opens w =
     let (journals, are, is) = path-is-run s w.taken w.goes in (

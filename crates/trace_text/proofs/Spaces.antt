@@ -1,4 +1,4 @@
--- No word of a line holds a space, but a scenario's text; so the spaces tell the words.
+-- No word of a line holds a space, but a scenario's text; so the spaces give the words.
 use Rattle.std.proofs.Common.{◌≡◌, ◌≢◌, ℕ, ℤ, pos, negsuc, ◌<◌, ◌^◌, ◌==◌, ◌&&◌, not, suc, zero, Bool, true, false, List, [], ◌∷◌, ◌++◌, get_or, length, map, codes, decimal, Option, Some, None, Ok, Err, refl, sym, ap, ◌∙◌, arith, lit<, append-nil, ◌/◌, ◌%◌}
 use Rattle.std.proofs.lemmas.Bool.{ne_eqb}
 use Rattle.std.proofs.lemmas.List.Splits.{slice_split_at, slice_split_none, join_with_byte-slice_split}

@@ -46,7 +46,7 @@ pub fn frame(words: &[&[u8]]) -> Option<Line>
     }
 }
 
-/// The frame that these words tell.
+/// The frame that these words describe.
 fn frame_of(words: &FrameWords) -> Option<Line>
     ensures { Reads IsWorded line_words (words_read words.now) result }
 {

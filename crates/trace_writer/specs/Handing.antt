@@ -1,4 +1,4 @@
--- What it means that bytes were handed over to a writer, whose sink tells what was written and counts its faults.
+-- What it means that bytes were handed over to a writer, whose sink reports what was written and counts its faults.
 use Rattle.std.specs.Prelude.{◌≡◌, ◌≤◌, ◌<◌, ℕ, Bool, List, Option, Result, Err, OnOk, OnErr}
 use Rattle.io_edge.specs.Edge.{Rises, Stays, Appends}
 use Rattle.trace_writer.specs.declared.writer.Stop.{Stop}
