@@ -7,6 +7,7 @@ import sys
 from dataclasses import replace
 from typing import Any
 
+from ..cosim.queues import said
 from ..shared import files
 from ..shared.given import Unreadable, Wrong, content_of
 from ..shared.progress import bar
@@ -251,7 +252,9 @@ def to_utdf(words: argparse.Namespace) -> int:
     from . import utdf_out, volumes_text  # here, since they take a while
 
     street = taking.sheet(words.file, words.names)
-    found, notes = utdf_out.written(street, words.pattern, volumes_text.read(words.volumes) if words.volumes else None)
+    volumes = volumes_text.read(words.volumes) if words.volumes else None
+    volumes = said.with_travels(volumes, said.said_in(street.names)) if volumes else None
+    found, notes = utdf_out.written(street, words.pattern, volumes)
     tell(notes)
     write(words.output, found)
     return Status.DONE

@@ -95,6 +95,9 @@ def names_are_known(volumes: Volumes) -> None:
         onward = it.onward
         if onward is None:
             continue
+        if not onward.travel:
+            words = "travel is missing: the seconds from stop line to stop line"
+            raise Fault(f"volumes: cabinet {it.cabinet}, movement {it.name}: {words}")
         there = approaches.get((onward.cabinet, onward.approach))
         if there is None:
             where = f"{onward.cabinet} {onward.approach}"
