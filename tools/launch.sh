@@ -161,7 +161,7 @@ run_sheet() {
     made=$("$found" -B "$tools/streettools" plan scenario "$1") || exit
     say "$1 is a timing sheet: the scenario that it makes is run (arterial plan scenario writes it)"
     case $made in
-    *'"inputs":'*) ;;
+    *'"veh":'* | *'"ped":'*) ;;
     *) say "no detector calls in this run: arterial cosim queues brings vehicles; recall = \"maximum\" calls without them" ;;
     esac
     exec <<END

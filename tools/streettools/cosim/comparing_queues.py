@@ -8,7 +8,8 @@ from dataclasses import dataclass
 
 from ..shared.fault import Fault
 from ..shared.given import Given
-from ..shared.program import found, ran
+from ..shared.program import answering, ran
+from ..shared.saying import say
 from .comparison import Result, Terms, terms_of, with_offsets, without_folders_of_before
 from .loop import Times
 from .queues import checks, keeping
@@ -84,7 +85,7 @@ def names_of(streets: list[Street]) -> tuple[str, ...]:
 
 def jobs_of(comparison: Comparison, program: str | None, out: pathlib.Path, keep: bool) -> list[Job]:
     """Returns all runs of a comparison, seed by seed; what is wrong with one of them is said before anything runs."""
-    path, terms = str(found(program)), comparison.terms
+    path, terms = str(answering(program, lambda line: say("cosim", line), is_long=True)), comparison.terms
     volumes, rows = read_volumes(comparison.volumes), []
     for place, plan in enumerate(comparison.plans, 1):
         street = street_of(plan)

@@ -181,11 +181,13 @@ def read(document: dict[str, Any], folder: pathlib.Path) -> Study:
     def trip(row: list[Any]) -> Trip:
         vehicle, route, kind, passages, depart, arrive, delay, stops, waits = (*row, None)[:9]
         told = tuple(Passage(*it) for it in passages)
-        return Trip(vehicle, route, Kind(kind), told, depart, arrive, delay, stops, tuple(waits) if waits else None)
+        wait: tuple[int, str, float] | None = (waits[0], waits[1], waits[2]) if waits else None
+        return Trip(vehicle, route, Kind(kind), told, depart, arrive, delay, stops, wait)
 
     def movement(row: list[Any]) -> Movement:
-        parents, service, storage = (*row[3:], None, None)[:3]
-        return Movement(*row[:3], tuple(parents), tuple(service) if service else None, storage)
+        cabinet, name, phase, parents, service, storage = (*row, None, None)[:6]
+        served = (service[0], service[1], service[2]) if service else None
+        return Movement(cabinet, name, phase, tuple(parents), served, storage)
 
     return Study(
         cabinets=document["cabinets"],

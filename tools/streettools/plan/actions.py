@@ -7,32 +7,14 @@ import sys
 from dataclasses import replace
 from typing import Any
 
+from ..cosim.queues import said
 from ..shared import files
 from ..shared.given import Unreadable, Wrong, content_of
 from ..shared.progress import bar
 from ..shared.saying import say
 from ..shared.status import Status
 from ..shared.tables import Tables
-from . import (
-    addresses,
-    check,
-    days,
-    explain,
-    jsontext,
-    live,
-    loads,
-    names,
-    sending,
-    sources,
-    taking,
-    toml_text,
-    utdf_in,
-    utdf_out,
-    utdf_text,
-    volumes_text,
-    walk,
-    writing,
-)
+from . import check, days, explain, jsontext, names, sources, taking, toml_text, writing
 from ..shared.cells import cells_between, tables_of
 from .event_times import Timed
 from .findings import Level, counted
@@ -214,6 +196,8 @@ def utdf_text_of(path: str) -> str:
 
 def from_utdf(words: argparse.Namespace) -> int:
     """Writes the sheet of UTDF files, and their volumes."""
+    from . import utdf_in, utdf_text, volumes_text  # here, since they take a while
+
     found = utdf_in.imported(utdf_text.read_all((path, utdf_text_of(path)) for path in words.files))
     street = street_of(found.sheet)
     tell(found.notes + street.notes)
@@ -229,6 +213,8 @@ def from_utdf(words: argparse.Namespace) -> int:
 
 def from_walk(words: argparse.Namespace) -> int:
     """Writes the sheet of controllers that were walked over."""
+    from . import walk  # here, since it takes a while
+
     walks = []
     for path in words.files:
         try:
@@ -243,6 +229,8 @@ def from_walk(words: argparse.Namespace) -> int:
 
 def from_live(words: argparse.Namespace) -> int:
     """Writes the sheet of a controller that answers."""
+    from . import live, walk  # here, since they take a while
+
     host, _, port = words.host.rpartition(":") if ":" in words.host else (words.host, "", "161")
     if not port.isdecimal() or not 0 < int(port) < 65_536:
         raise Refused(f"{words.host}: a host and a port are wanted, as 127.0.0.1:10161")
@@ -261,8 +249,12 @@ def from_live(words: argparse.Namespace) -> int:
 
 def to_utdf(words: argparse.Namespace) -> int:
     """Writes a street as UTDF, with its volumes."""
+    from . import utdf_out, volumes_text  # here, since they take a while
+
     street = taking.sheet(words.file, words.names)
-    found, notes = utdf_out.written(street, words.pattern, volumes_text.read(words.volumes) if words.volumes else None)
+    volumes = volumes_text.read(words.volumes) if words.volumes else None
+    volumes = said.with_travels(volumes, said.said_in(street.names)) if volumes else None
+    found, notes = utdf_out.written(street, words.pattern, volumes)
     tell(notes)
     write(words.output, found)
     return Status.DONE
@@ -270,6 +262,8 @@ def to_utdf(words: argparse.Namespace) -> int:
 
 def do_loads(words: argparse.Namespace) -> int:
     """Writes the downloads from one plan to another as a scenario's loads; or sends them, or says what it would."""
+    from . import loads  # here, since it takes a while
+
     old, new = taking.sheet(words.old), taking.sheet(words.new)
     count = len(new.scenario["cabinets"])
     if words.at is not None:
@@ -293,6 +287,8 @@ def do_loads(words: argparse.Namespace) -> int:
 
 def do_sets(words: argparse.Namespace, old: Street, new: Street, found: list[dict[str, Any]]) -> int:
     """Says what devices get, and sends it if that is asked for."""
+    from . import addresses, live, sending  # here, since they take a while
+
     loads_here = sending.loads_of(old, new, found, addresses.places_of(words.sets, len(new.scenario["cabinets"])))
     lines = [line for it in loads_here for line in it.lines()]
     if not loads_here:

@@ -4,7 +4,7 @@ way to the next intersection takes."""
 import json
 from collections.abc import Iterator
 
-from ..shared.program import NoProgram, found, ran
+from ..shared.program import NoProgram, answering, ran
 from ..shared.cells import tables_of
 from ..shared.tables import Tables
 from .findings import Finding, Level, Rank
@@ -68,7 +68,7 @@ def findings(street: Street, path: str | None) -> Iterator[Finding]:
     if not asked:
         return
     try:
-        program = found(path)
+        program = answering(path, lambda line: None)
     except NoProgram as why:
         yield Finding(Level.NOTE, "", f"bands are not looked at: {why}")
         return

@@ -217,7 +217,7 @@ def test_what_cant_be_read_is_one_line(tee):
     for words, line in (
         (["--sumo", tee / "none.sumocfg"], "No such file"),
         (["--map", tee / "none.toml"], "No such file"),
-        (["--scenario", tee / "tee.map.toml"], "not JSON"),
+        (["--scenario", tee / "tee.net.xml"], "not JSON"),
         (["--program", tee / "none"], "no program at"),
     ):
         ran = run_tee(tee, *words)

@@ -37,8 +37,8 @@ def turns_are_known(volumes: Volumes, tables: dict[int, Tables]) -> None:
         enabled = tables[it.cabinet].enabled()
         if strange := next((phase for phase in it.permitted if phase not in enabled), None):
             raise Fault(f"volumes: {told(it)}: permitted phase {strange} is not enabled in cabinet {it.cabinet}")
-        if strange := next((name for name in it.yielding.to if (it.cabinet, name) not in names), None):
-            raise Fault(f"volumes: {told(it)} yields to {strange}, a movement that doesn't exist")
+        if unknown := next((name for name in it.yielding.to if (it.cabinet, name) not in names), None):
+            raise Fault(f"volumes: {told(it)} yields to {unknown}, a movement that doesn't exist")
         if gives_way(it) and not yields_to(it):
             raise Fault(f"volumes: {told(it)} gives way: yields_to has to name the movements to which it does")
         if it.yielding.on_red and it.permitted:
@@ -95,6 +95,9 @@ def names_are_known(volumes: Volumes) -> None:
         onward = it.onward
         if onward is None:
             continue
+        if not onward.travel:
+            words = "travel is missing: the seconds from stop line to stop line"
+            raise Fault(f"volumes: cabinet {it.cabinet}, movement {it.name}: {words}")
         there = approaches.get((onward.cabinet, onward.approach))
         if there is None:
             where = f"{onward.cabinet} {onward.approach}"

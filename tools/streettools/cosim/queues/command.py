@@ -7,7 +7,8 @@ from collections.abc import Callable
 
 from ...shared.commandline import Parser, add_json, add_output, add_program, number
 from ...shared.fault import Fault
-from ...shared.program import found
+from ...shared.program import answering
+from ...shared.saying import say
 from ...shared.status import Status
 from .. import report
 from . import keeping
@@ -75,7 +76,7 @@ def ran(words: argparse.Namespace) -> tuple[Ran, Street]:
 
     volumes, street = read_volumes(words.volumes), read_street(words.scenario)
     asked = asked_of(words, queue_study.seconds_of(street.scenario, words.seconds))
-    program = str(found(words.program))
+    program = str(answering(words.program, lambda line: say("cosim", line), is_long=True))
     shown = bar(round(asked.seconds * 10) // asked.step, "step")
     advance: Callable[[int], None] = (lambda step: None) if shown is None else lambda step: shown.update(1)
     try:

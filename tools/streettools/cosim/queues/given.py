@@ -1,11 +1,12 @@
 """What a run of queues is given: volumes, and the cabinets of a scenario or of a timing sheet with their names."""
 
 import pathlib
-from dataclasses import dataclass, replace
+from dataclasses import dataclass
 from typing import TYPE_CHECKING, Any
 
 from ...plan.suffixes import is_sheet
 from ...shared.given import content_of, toml_of
+from . import said
 from .study import read_scenario
 from .volumes import Volumes, volumes_of
 
@@ -52,8 +53,5 @@ def beside(path: pathlib.Path) -> "Names | None":
 
 
 def fitted(volumes: Volumes, street: Street) -> Volumes:
-    """Returns the volumes with the placeholder phases that have no traffic as idle: they needn't be listed."""
-    rows = enumerate(street.names.intersections if street.names else (), 1)
-    partners = {(number, phase) for number, it in rows for phase in it.partners}
-    busy = {(it.cabinet, it.phase) for it in volumes.flows} | {(it.cabinet, it.phase) for it in volumes.crossings}
-    return replace(volumes, idle=volumes.idle | (partners - busy))
+    """Returns the volumes with what the street's sheet has said already."""
+    return said.fitted(volumes, said.said_in(street.names))

@@ -49,8 +49,9 @@ class Detectors:
 
 @dataclass(frozen=True)
 class Onward:
-    """Where vehicles go on: the cabinet and the approach there, how long they drive at the wanted speed, which share
-    of the movement goes there (the others leave the street), and the dispersion of platoons."""
+    """Where vehicles go on: the cabinet and the approach there, how long they drive at the wanted speed (0 where the
+    file doesn't say it, and a sheet has to), which share of the movement goes there (the others leave the street), and
+    the dispersion of platoons."""
 
     cabinet: int
     approach: str
@@ -191,9 +192,7 @@ def onward_of(given: Given, dispersion: float) -> Onward | None:
     number, _, approach = to.partition(" ")
     if not (number.isdecimal() and len(number) <= 3 and approach):
         raise given.refuse("to", 'has to be a cabinet and an approach, as "2 EB"')
-    if travel is None:
-        raise given.refuse("travel", "is missing: the seconds from stop line to stop line")
-    return Onward(int(number), approach, float(travel), float(share), dispersion)
+    return Onward(int(number), approach, float(travel or 0), float(share), dispersion)
 
 
 def yielding_of(given: Given) -> Yielding:
