@@ -268,7 +268,7 @@ def do_loads(words: argparse.Namespace) -> int:
     count = len(new.scenario["cabinets"])
     if words.at is not None:
         try:
-            words.round = Timed(new.scenario, []).round(words.at)
+            words.round = Timed(new.scenario, []).round(round(10 * words.at))
         except Wrong as wrong:
             raise Refused(str(wrong)) from None
     found = loads.between(old, new, words.round, words.flash)
