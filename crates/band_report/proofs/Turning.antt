@@ -36,7 +36,7 @@ left-ends cycle a time part some =
     further cycle a time (left cycle a time) ∙ ap (λ (u : ℕ). u % cycle) whole ∙ mod-eq_of_lt part in
     ap (λ (u : ℕ). a.green - u) there ∙ omega arith
 
--- a time is so long after the start of an arc as it is far into it
+-- the time from the start of an arc is how far a time is into it
 pub behind-start : (cycle : ℕ) (a : Arc) (time : ℕ) → a.lead < cycle → time < cycle → (start_of cycle a + into cycle a time) % cycle ≡ time
 behind-start cycle a time lead few =
     let whole : cycle - a.lead + (time + a.lead) ≡ cycle + time = omega arith in

@@ -1,6 +1,7 @@
-//! Through bands of a section: the widest span of the cycle in which a vehicle meets green at each cabinet, both ways along the
-//! street (FHWA Signal Timing Manual: bandwidth); what is asked of them as a JSON object (RFC 8259), and the two lines that
-//! answer. Bands are found from the windows of the cabinets, each an arc of the cycle; no time of the cycle is tried one by one.
+//! Progression bands of a section: the widest span of the cycle in which a vehicle meets green at each cabinet, both
+//! ways along the street (FHWA Signal Timing Manual: bandwidth); the question as a JSON object (RFC 8259), and the two
+//! lines of the answer. Bands are computed from the windows of the cabinets, each an arc of the cycle, without trying
+//! each time of the cycle.
 #![tactic(auto)]
 
 mod arcs;

@@ -117,7 +117,8 @@ impl<B: Logged> Row<B> {
         Brought::Done(count)
     }
 
-    // Some next items of the pass come to the book that its seat has taken, which has so many left: how many these are.
+    // Some next items of the pass arrive at the book that its seat has taken, which has this number of items left;
+    // returns how many arrived.
     fn bring(&self, seat: &mut Seat<B, View>, number: u32, c: usize, most: u32) -> u32
         requires table { seat.old.table_id ≡ self.now.table.shared.table_id }
         requires some { 1 ≤ most }

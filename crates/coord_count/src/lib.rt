@@ -1,6 +1,6 @@
-//! The counter of a cycle: how far a coordinated cabinet has come since local zero, and how it is brought onto the offset
-//! (FHWA Signal Timing Manual, offset transition). What looking back over the counters since the pickup would count, how
-//! often the counter stood and skipped in this cycle, is kept as numbers.
+//! The counter of a cycle: how far a coordinated cabinet has come since local zero, and how it is brought onto the
+//! offset (FHWA Signal Timing Manual, offset transition). Two numbers are kept that looking back over the counters
+//! since the pickup would give: how often the counter waited and how often it skipped in this cycle.
 #![tactic(auto)]
 
 ghost use Rattle.std.specs.Prelude.{◌≡◌, ◌<◌, ◌≤◌, ◌-◌, ◌+◌, ℕ, List, [], ◌∷◌};

@@ -1,5 +1,5 @@
 //! Undisturbed coordination, in every lawful history: each tick is as the laws of a seek and of a coordinated pattern
-//! require, so the whole promise holds of it. The functions have no bodies: each represents the laws of its contract.
+//! require, so the whole promise holds of it. The functions have no bodies: their contracts are the laws.
 //! (FHWA Signal Timing Manual: coordination, offset, transition.)
 ghost use Rattle.std.specs.Prelude.{ℕ, ◌≡◌, ◌⊎◌, ◌≤◌, ◌<◌, ◌+◌, ◌∷◌, List, true, false};
 ghost use Rattle.sig_tables.specs.Slots.{is_defined, cycle_time};

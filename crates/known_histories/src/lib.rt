@@ -1,5 +1,6 @@
-//! Histories of whole ticks against what an independent program says of them, computed by the check: that the definitions of a
-//! tick mean what the rules of signal control say, in every mode. The functions have no bodies.
+//! Histories of whole ticks, compared with what an independent program says about them. The prover computes them from
+//! the definitions. So the definitions of a tick mean what the rules of signal control say, in every mode. The
+//! functions have no bodies.
 #![tactic(auto)]
 
 ghost use Rattle.std.specs.Prelude.{◌≡◌, [], ◌∷◌};

@@ -69,7 +69,7 @@ find_is {A} p (x ∷ xs) = split (p x) (find_is p xs)
 pub same_first : {A : Type 0} (p : A → Bool) (xs ys : List A) → filter p xs ≡ filter p ys → find p xs ≡ find p ys
 same_first p xs ys e = find_is p xs ∙ ap first_of e ∙ sym (find_is p ys)
 
--- in a sorted list what is before an element that is less than another is less than it too
+-- in a sorted list, if an element is less than a value, everything before it is less as well
 pub parted : {A : Type 0} {cmp : A → A → Ordering} → IsTotalOrder cmp → (sorted : List A) → IsSorted cmp sorted → (t : A) → (i j : ℕ) (d : A) → i ≤ j → j < length sorted
     → is_lt (cmp (get_or sorted j d) t) ≡ true → is_lt (cmp (get_or sorted i d) t) ≡ true
 parted {A} {cmp} o sorted up t i j d le below early =

@@ -1,5 +1,5 @@
 //! Laws of the counter under a clock that drifts: the target then moves by none or by two at some ticks. The functions
-//! have no bodies: each represents the laws of its contract.
+//! have no bodies: their contracts are the laws.
 ghost use Rattle.std.specs.Prelude.{ℕ, ◌≡◌, ◌≤◌, ◌<◌, ◌+◌, ◌*◌, List, [], ◌∷◌, true};
 ghost use Rattle.sig_tables.specs.Counting.{Correction, HasRoom, begins_cycle, last_counter, most_a_cycle, needed};
 ghost use Rattle.offset_laws.specs.Drifting.{Drift, Loses, Gains, one_step, each_third, drifted, target_drifted, Spaced, CanCorrect, StaysNear};

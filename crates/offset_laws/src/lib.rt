@@ -1,6 +1,6 @@
 //! Laws of offset correction, in numbers: the counter of a cycle is brought onto its target, a local zero comes for any
 //! targets, and under a clock that drifts the offset is held to within one tick (FHWA Signal Timing Manual, offset
-//! transition). The functions have no bodies: each represents the laws of its contract.
+//! transition). The functions have no bodies: their contracts are the laws.
 #![tactic(auto)]
 
 mod drift_held;

@@ -1,6 +1,6 @@
 //! What consistent tables give the layers above: laws of barrier groups, sequences, goals and patterns that follow from
-//! the consistency rules; and what each rule of a plan is for, by a plan that breaks only it. The functions do nothing:
-//! each represents the law of its contract, which callers cite.
+//! the consistency rules; and what each rule about a plan is for, by a plan that breaks only that rule. The functions
+//! do nothing: their contracts are the laws, which callers cite.
 #![tactic(auto)]
 
 mod broken_plans;

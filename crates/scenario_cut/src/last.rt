@@ -177,7 +177,7 @@ fn keep_last(
     }
 }
 
-/// What is kept of the value of the bytes as a whole scenario; none, if memory runs out or they are no such text.
+/// What is kept of the value of the bytes as a whole scenario; none if memory runs out or they are not such a text.
 pub(crate) fn kept_last(alloc: Global, bytes: &[u8]) -> Option<Value>
     ensures { IfSome result (λ kept. (d : Data) × Reads bytes.now d × (view kept ≡ cut Whole d)) }
 {

@@ -1,5 +1,5 @@
-//! What a session with cabinets is: what is asked of it request by request, what it answers, and that it is a run, by
-//! its own journals, of the scenario that results. The functions only cite: each represents the laws of its contract.
+//! What a session with cabinets is: its requests, its answers, and that it is a run, by its own journals, of the
+//! scenario that results. The functions have no bodies: their contracts are the laws.
 #![tactic(auto)]
 
 ghost use Rattle.std.specs.Prelude.{◌≤◌, ℕ, List};

@@ -1,6 +1,6 @@
-//! The download stage of a cabinet (transactions after NTCIP 1201): where the parts of new tables are gathered before they
-//! are put in force as a whole. It keeps one copy of the tables, which is made when a download begins, and never changes
-//! those in force: it answers `Accepted` where its own are to take their place. Nothing here takes memory.
+//! The download stage of a cabinet (transactions after NTCIP 1201): where the parts of new tables are gathered before
+//! they are put in force as a whole. It keeps one copy of the tables, which is made when a download begins, and never
+//! changes those in force: it answers `Accepted` if its own tables should replace them. Nothing here takes memory.
 #![tactic(auto)]
 
 ghost use Rattle.std.specs.Prelude.{◌≡◌, ◌≤◌, List, [], ◌∷◌, Some, map};

@@ -1,6 +1,6 @@
 //! A pattern's force-offs: what one step of the counter keeps of each phase between two local zeros, so that a phase is
 //! forced off only once it is served, and at local zero only the coordinated phases are on. The functions have no
-//! bodies: each represents the laws of its contract. (FHWA Signal Timing Manual: force-off, permissive period, yield
+//! bodies: their contracts are the laws. (FHWA Signal Timing Manual: force-off, permissive period, yield
 //! point.)
 ghost use Rattle.std.specs.Prelude.{ℕ, ◌<◌, ◌≤◌, ◌≡◌, ◌⊎◌, ◌+◌, ◌∷◌, List, true};
 ghost use Rattle.sig_types.specs.declared.frame.Colour.TheVariants.{Green, Red};

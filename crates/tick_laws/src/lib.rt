@@ -1,6 +1,6 @@
 //! What the definition of a tick gives: laws of safety, of calls, of the clock, of force-offs and of coordinated ticks,
-//! for every history. The functions have no bodies: each represents the laws of its contract. What is shown, by whom
-//! and how long, follows NEMA TS 2 and the FHWA Signal Timing Manual.
+//! for every history. The functions have no bodies: their contracts are the laws. What is shown, and for how long,
+//! follows NEMA TS 2 and the FHWA Signal Timing Manual.
 #![tactic(auto)]
 
 mod called;

@@ -1,5 +1,5 @@
 //! The lines of a run are lines that a trace may have, for any journals, so its text is that of no other lines. It has
-//! no code: the functions represent the laws of their contracts.
+//! no code: the contracts of the functions are the laws.
 ghost use Rattle.std.specs.Prelude.{ℕ, List};
 ghost use Rattle.scenario_data.specs.Content.{ScenarioContent};
 ghost use Rattle.safety_laws.specs.TraceText.{AreLines};

@@ -261,3 +261,10 @@ def test_an_input_that_the_street_refuses_is_an_error():
     with pytest.raises(Fault) as raised:
         asyncio.run(cabinet.do(3, snmp.Binding(arcs(f"{ASC}.6.3.1.2.1"), ber.Field(ber.INTEGER, b"\1"))))
     assert (raised.value.status, raised.value.index) == (GEN_ERR, 3)
+
+
+def test_the_sizes_of_tables_are_those_of_the_profile():
+    """By the indexes in mibs/ARTERIAL-PROFILE-MIB: phases, patterns, splits, preempts, rings, sequences."""
+    places = ((1, 1), (4, 5), (4, 8), (6, 1), (7, 1), (7, 2))
+    found = [asyncio.run(OBJECTS[oids.ASC + place + (0,)](None)) for place in places]
+    assert [ber.number_of(it.content) for it in found] == [16, 48, 32, 8, 2, 16]

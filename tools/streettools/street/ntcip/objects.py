@@ -120,7 +120,7 @@ def scalars() -> dict[Arcs, Read]:
         ASC + (2, 3, 0): whole(2),
         ASC + (3, 5, 0): whole(2),
         ASC + (4, 5, 0): whole(48),
-        ASC + (4, 8, 0): whole(16),
+        ASC + (4, 8, 0): whole(32),
         ASC + (6, 1, 0): whole(8),
         ASC + (7, 1, 0): whole(2),
         ASC + (7, 2, 0): whole(16),
