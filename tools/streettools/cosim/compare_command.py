@@ -9,7 +9,7 @@ from ..shared.commandline import Parser, add_json, add_output, add_program, numb
 from ..shared.progress import bar
 from ..shared.saying import say
 from ..shared.status import Status
-from .comparing import Comparison, Row, do_all, jobs_of, read_comparison, rows_of
+from .comparing import Comparison, Row, do_all, jobs_of, read_comparison, rows_of, without_walks
 from .totals import Mean
 
 EXAMPLES = """\
@@ -96,7 +96,11 @@ def document_of(comparison: Comparison, rows: list[Row]) -> dict[str, Any]:
 def main(given: list[str]) -> int:
     """Runs a comparison, and returns the exit status."""
     words = parser().parse_args(given)
-    comparison = read_comparison(words.comparison)
+    comparison, left = without_walks(read_comparison(words.comparison))
+    for plan in left:
+        say("cosim", f"plan {plan} is left out: SUMO's controllers have no walk times, and persons walk here")
+    if comparison.step >= 1:
+        say("cosim", "steps of 1 s lower SUMO's saturation flow: they are for looking; measure delay with step = 0.1")
     jobs = jobs_of(comparison, words.program, words.output, words.keep)
     words.output.mkdir(parents=True, exist_ok=True)
     progress = bar(len(jobs), "run")
