@@ -117,6 +117,17 @@ def kind_of(given: Given) -> ModuleType:
     return comparing
 
 
+def with_walks(comparison: comparing.Comparison) -> comparing.Comparison:
+    """Returns the plans that can be compared where persons walk; says which are left out, and which step is short
+    enough for measures."""
+    found, left = comparing.without_walks(comparison)
+    for plan in left:
+        say("cosim", f"plan {plan} is left out: SUMO's controllers have no walk times, and persons walk here")
+    if found.terms.step >= 1:
+        say("cosim", "steps of 1 s lower SUMO's saturation flow: they are for looking; measure delay with step = 0.1")
+    return found
+
+
 def ran(kind: ModuleType, jobs: list[Any], workers: int) -> list[Result]:
     """Does all runs."""
     progress = bar(len(jobs), "run")
@@ -136,6 +147,8 @@ def main(given: list[str]) -> int:
     read = read_toml(words.comparison)
     kind = kind_of(read)
     comparison = kind.of(read, words.comparison.parent)
+    if kind is comparing:
+        comparison = with_walks(comparison)
     jobs = kind.jobs_of(comparison, words.program, words.output or pathlib.Path(tempfile.gettempdir()), words.keep)
     if words.output is None and kind is comparing:
         raise Fault("a comparison under SUMO needs -o FOLDER, in which SUMO writes")

@@ -1,23 +1,23 @@
-"""Saturation flow and lost time of each lane in a run of SUMO, by the field method of the Highway Capacity Manual: who
-passes the stop line after whom, of greens that begin with a queue (docs/MEASURES.md).
+"""Saturation flow and lost time of each lane in a run of SUMO, by the field method of the Highway Capacity Manual: when
+those pass the stop line who stood before it, of greens that begin with a queue (docs/MEASURES.md).
 """
 
 import bisect
-import pathlib
-import xml.etree.ElementTree as xml
 from collections import defaultdict
 from collections.abc import Iterable
-from typing import NamedTuple
+from typing import Any, NamedTuple
 
+from .drive import call
+from .halts import Halt
 from .network import CROSSING, Network, edge_of
+from .passing import Traffic
 from .records import LaneFlow
 from .signals import GREEN
 
-LOOPS, PASSED = "lines.add.xml", "passed.xml"
 LEAST, FIRST = 8, 4
 """A green counts that begins with a queue of so many; its headway is that of those after the first four."""
-CLEARS = 6.0
-"""Seconds after the end of a green in which a vehicle may still pass."""
+CLEARS, APART = 6.0, 6.0
+"""Seconds after the end of a green in which a vehicle may still pass; between two of a queue."""
 History = dict[str, list[tuple[float, str]]]
 
 
@@ -42,31 +42,48 @@ def approaches(network: Network, cabinets: dict[str, int]) -> list[Approach]:
     return found
 
 
-def write_loops(network: Network, lanes: Iterable[Approach], path: pathlib.Path, out: pathlib.Path) -> None:
-    """Writes SUMO's additional file with a loop at each stop line, which keeps who passes."""
-    root = xml.Element("additional")
-    for it in lanes:
-        place = max(network.lanes[it.lane] - 0.2, 0.0)
-        words = {"id": f"line {it.lane}", "lane": it.lane, "pos": f"{place:.2f}", "file": str(out.resolve())}
-        xml.SubElement(root, "instantInductionLoop", words)
-    xml.ElementTree(root).write(path, encoding="unicode")
+class Crossings:
+    """Looks once a second who is on the lanes over junctions: from which lane each vehicle left an edge."""
+
+    def __init__(self, network: Network, signals: Iterable[str], sumo: Any) -> None:
+        self.froms = {
+            network.vias[link.name]: link.start
+            for name in signals
+            for link in network.links[name]
+            if link.name in network.vias
+        }
+        self.names = list(self.froms)
+        self.count = call(sumo, "lane", "getLastStepVehicleNumber")
+        self.there = call(sumo, "lane", "getLastStepVehicleIDs")
+        self.lanes: dict[tuple[str, str], str] = {}
+        """The lane from which a vehicle left an edge."""
+
+    def look(self) -> None:
+        """Keeps who is over junctions now."""
+        for name, count in zip(self.names, map(self.count, self.names)):
+            if count:
+                lane = self.froms[name]
+                for vehicle in self.there(name):
+                    self.lanes[vehicle, edge_of(lane)] = lane
 
 
-Passages = dict[str, list[tuple[float, str]]]
-"""Of each lane when a vehicle's front passed its stop line, and the vehicle."""
+Passages = dict[str, list[tuple[float, bool]]]
+"""Of each lane when vehicles passed its stop line, and whether each had stood before it."""
 
 
-def read_passages(path: pathlib.Path, begin: float) -> Passages:
-    """Reads what the loops kept."""
+def passages_of(traffic: Traffic, halts: Iterable[Halt], crossed: dict[tuple[str, str], str]) -> Passages:
+    """Returns who passed which lane's stop line: by the lane from which each was seen to leave its edge, otherwise by
+    the one on which it stood last there."""
+    stood = {(vehicle, it.edge): it.lane for it in halts for vehicle in it.vehicles}
     found: Passages = defaultdict(list)
-    try:
-        for _, element in xml.iterparse(path):
-            if element.tag == "instantOut" and element.get("state") == "enter":
-                at, lane = float(element.get("time", 0)) - begin, element.get("id", "").removeprefix("line ")
-                found[lane].append((at, element.get("vehID", "")))
-                element.clear()
-    except (OSError, xml.ParseError):
-        return {}
+    for vehicle, ways in traffic.ways.items():
+        for way in ways:
+            key = vehicle, way.edges[-1]
+            lane = crossed.get(key) or stood.get(key)
+            if lane is not None and way.passed is not None:
+                found[lane].append((way.passed, any((vehicle, it) in stood for it in way.edges)))
+    for times in found.values():
+        times.sort()
     return found
 
 
@@ -84,24 +101,22 @@ def greens_of(history: list[tuple[float, str]], places: tuple[int, ...]) -> list
     return found
 
 
-def queued(passed: list[tuple[float, str]], start: float, end: float, stood: set[str]) -> list[float]:
-    """Returns when those passed who had stood, as long as one follows another, after a green began."""
-    first = bisect.bisect_left(passed, (start, ""))
-    found = []
-    for at, vehicle in passed[first:]:
-        if at > end + CLEARS or vehicle not in stood:
+def queued(passed: list[tuple[float, bool]], start: float, end: float) -> list[float]:
+    """Returns how long after the beginning of a green those passed who had stood, as long as one follows another."""
+    found: list[float] = []
+    for at, has_stood in passed[bisect.bisect_left(passed, (start, False)) :]:
+        if not has_stood or at > end + CLEARS or found and at - start - found[-1] > APART:
             break
         found.append(at - start)
     return found
 
 
-def lane_flow(it: Approach, history: History, passed: Passages, stood: set[tuple[str, str]]) -> LaneFlow | None:
+def lane_flow(it: Approach, history: History, passed: Passages) -> LaneFlow | None:
     """Returns saturation flow and lost time of a lane, None where no green began with a queue."""
     greens = vehicles = 0
     beyond = fourth = 0.0
-    there = {vehicle for vehicle, edge in stood if edge == edge_of(it.lane)}
     for start, end in greens_of(history[it.signal], it.places):
-        times = queued(passed.get(it.lane, []), start, end, there)
+        times = queued(passed.get(it.lane, []), start, end)
         if len(times) >= LEAST:
             greens, vehicles = greens + 1, vehicles + len(times) - FIRST
             beyond, fourth = beyond + times[-1] - times[FIRST - 1], fourth + times[FIRST - 1]
@@ -112,11 +127,9 @@ def lane_flow(it: Approach, history: History, passed: Passages, stood: set[tuple
     return LaneFlow(it.cabinet, it.lane, greens, vehicles, round(3600 / headway), round(lost, 2))
 
 
-def lane_flows(
-    lanes: list[Approach], history: History, passed: Passages, stood: set[tuple[str, str]]
-) -> list[LaneFlow]:
+def lane_flows(lanes: list[Approach], history: History, passed: Passages) -> list[LaneFlow]:
     """Returns saturation flow and lost time of each lane that had queues."""
-    return [found for it in lanes if (found := lane_flow(it, history, passed, stood)) is not None]
+    return [found for it in lanes if (found := lane_flow(it, history, passed)) is not None]
 
 
 def difference(flows: list[LaneFlow], saturation: float, lost: float) -> str:

@@ -3,11 +3,13 @@ TraCI, which takes several times as long.
 """
 
 import contextlib
+import gzip
 import importlib
 import math
 import os
 import pathlib
 import sys
+import xml.etree.ElementTree as xml
 from collections.abc import Callable, Iterator
 from dataclasses import dataclass
 from typing import Any
@@ -18,6 +20,7 @@ from .xml_file import root_of
 
 TOOLS = "/usr/share/sumo/tools"
 TRIPS, ROUTES, STOPS, LOG = "tripinfo.xml", "vehroutes.xml", "stops.xml", "sumo.log"
+PERSONS = ("person", "personFlow")
 PACKAGES = "apt-get install -y sumo sumo-tools"
 
 
@@ -46,13 +49,34 @@ def call(sumo: Any, kind: str, name: str) -> Callable[..., Any]:
 @dataclass(frozen=True)
 class Config:
     """A configuration of SUMO, as far as it is known here: its network, additional files, first and last second (None
-    where it names none)."""
+    where it names none), files of routes."""
 
     path: pathlib.Path
     network: pathlib.Path
     additional: tuple[pathlib.Path, ...]
     begin: float
     end: float | None
+    routes: tuple[pathlib.Path, ...] = ()
+
+    def has_persons(self) -> bool:
+        """Tells whether persons walk: whether a file of routes or an additional one has some."""
+        return any(has_persons(it) for it in (*self.routes, *self.additional))
+
+
+def has_persons(path: pathlib.Path) -> bool:
+    """Tells whether a file has persons; one that can't be read is for SUMO to refuse."""
+    with contextlib.suppress(OSError, xml.ParseError):
+        with gzip.open(path) if path.suffix == ".gz" else open(path, "rb") as text:
+            for _, element in xml.iterparse(text, ("start",)):
+                if element.tag in PERSONS:
+                    return True
+                element.clear()
+    return False
+
+
+def files_of(text: str, folder: pathlib.Path) -> tuple[pathlib.Path, ...]:
+    """Returns the files of a list with commas."""
+    return tuple(folder / it.strip() for it in text.split(",") if it.strip())
 
 
 def read_config(path: pathlib.Path) -> Config:
@@ -63,13 +87,14 @@ def read_config(path: pathlib.Path) -> Config:
     if not network:
         raise Fault(f"{path}: no configuration of SUMO: net-file is missing")
     files = values.get("additional-files") or values.get("additional") or values.get("a") or ""
-    additional = tuple(path.parent / it.strip() for it in files.split(",") if it.strip())
+    additional = files_of(files, path.parent)
+    routes = files_of(values.get("route-files") or values.get("route") or values.get("r") or "", path.parent)
     begin, end = math.nan, math.nan
     with contextlib.suppress(ValueError):
         begin, end = float(values.get("begin", 0)), float(values.get("end", -1))
     if not math.isfinite(begin + end):
         raise Fault(f"{path}: begin and end have to be seconds")
-    return Config(path, path.parent / network, additional, begin, end if end > 0 else None)
+    return Config(path, path.parent / network, additional, begin, end if end > 0 else None, routes)
 
 
 @dataclass(frozen=True)

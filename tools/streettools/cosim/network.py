@@ -90,7 +90,7 @@ class Program(NamedTuple):
 class Network:
     """All that is kept of a network. `foes` and `yields` have pairs of places in the matrix of each junction: paths
     that cross or join, and who gives way to whom where both have a green that yields. `inner` is the way over a
-    junction from an edge to an edge."""
+    junction from an edge to an edge, `vias` the first lane over it of each link, by its name."""
 
     path: pathlib.Path
     edges: dict[str, Edge] = field(default_factory=dict)
@@ -101,6 +101,7 @@ class Network:
     lanes: dict[str, float] = field(default_factory=dict)
     sidewalks: set[str] = field(default_factory=set)
     inner: dict[tuple[str, str], Part] = field(default_factory=dict)
+    vias: dict[str, str] = field(default_factory=dict)
     programs: dict[str, Program] = field(default_factory=dict)
 
     def conflicts(self, signal: str) -> Iterator[tuple[Link, Link]]:
@@ -241,6 +242,8 @@ def read_inner(root: xml.Element, found: Network) -> None:
     """Reads the ways over junctions, which may be of two lanes, one behind the other."""
     parts = {of(it, "id"): Part(float(of(it, "length")), float(of(it, "speed"))) for it in root.iter("lane")}
     ways = [(it, it.attrib["via"]) for it in root.iter("connection") if it.get("via")]
+    for it, via in ways:
+        found.vias[f"{it.get('from')}_{it.get('fromLane')} {it.get('to')}_{it.get('toLane')}"] = via
     behind = {f"{it.get('from')}_{it.get('fromLane')}": via for it, via in ways}
     for way, via in ways:
         key = of(way, "from"), of(way, "to")

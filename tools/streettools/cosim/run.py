@@ -87,9 +87,6 @@ def run(given: Given, program: pathlib.Path, out: pathlib.Path, progress: Callab
     try:
         check(given.street, given.network, given.scenario)
         areas, added = built_areas(given.street, given.network, out)
-        loops = out / discharge.LOOPS
-        discharge.write_loops(given.network, lanes_of(given), loops, out / discharge.PASSED)
-        added = (*added, loops.resolve())
         start = Start(given.config, added, given.step, given.seconds, given.seed, out)
         try:
             with drive.running(sumo, start):
@@ -120,9 +117,9 @@ def done(
     halts, begin = loop.halts.found, given.config.begin
     seconds = loop.second
     history = loop.watch.history
-    trips = read_traffic(given.street, given.network, history, halts, types, out, Span(begin, seconds))
-    movements, stood = movements_of(given.street), stood_of(halts)
-    passed = discharge.read_passages(out / discharge.PASSED, begin)
+    trips, traffic = read_traffic(given.street, given.network, history, halts, types, out, Span(begin, seconds))
+    movements = movements_of(given.street)
+    passed = discharge.passages_of(traffic, halts, loop.crossings.lanes)
     study = Study(
         cabinets=len(given.scenario["cabinets"]),
         movements=movements,
@@ -133,7 +130,7 @@ def done(
         warm=given.warm,
         requests=loop.priority.done,
         title=given.config.path.stem,
-        lanes=discharge.lane_flows(lanes_of(given), history, passed, stood),
+        lanes=discharge.lane_flows(lanes_of(given), history, passed),
     )
     save(study, out / STUDY)
     value = report.collect(study, more=report.More(given.names))
@@ -150,12 +147,12 @@ def read_traffic(
     types: dict[str, tuple[str, float]],
     out: pathlib.Path,
     span: Span,
-) -> list[Trip]:
+) -> tuple[list[Trip], Traffic]:
     """Reads what SUMO wrote of its vehicles."""
     traffic = Traffic(street, network, history)
     traffic.read_stops(out / drive.STOPS)
     traffic.read_routes(out / drive.ROUTES, span.begin, starts_of(out / drive.TRIPS))
-    return trips_of(out / drive.TRIPS, traffic, span.begin, types, stood_of(halts), span.end)
+    return trips_of(out / drive.TRIPS, traffic, span.begin, types, stood_of(halts), span.end), traffic
 
 
 def lanes_of(given: Given) -> list[discharge.Approach]:

@@ -7,7 +7,7 @@ from streettools.cosim.records import Kind, LaneFlow, Movement, Passage, QueueSa
 
 from .conftest import TEE, cosim, needs_sumo, run_tee
 
-EDGE, LANE = "in-east", "in-east_2"
+LANE = "in-east_2"
 
 
 def lane() -> discharge.Approach:
@@ -33,14 +33,13 @@ def test_lanes_before_a_signal_are_those_of_vehicles():
 
 def test_headway_is_of_those_after_the_fourth_and_lost_time_what_the_first_four_need_more():
     """The first green: 3.5, 6, 8.25, 10.5 s, then six more 2 s apart: 1800 an hour, and 10.5 - 4 x 2 = 2.5 s lost. The
-    second begins with seven that stood, too few to count."""
+    second begins with seven; three who pass 12 s later are no part of that queue."""
     times = [3.5, 6.0, 8.25, 10.5, 12.5, 14.5, 16.5, 18.5, 20.5, 22.5]
-    passed = [(100.0 + at, f"a{number}") for number, at in enumerate(times)]
-    passed += [(200.0 + at, f"b{number}") for number, at in enumerate(times)]
-    stood = {(f"a{number}", EDGE) for number in range(10)} | {(f"b{number}", EDGE) for number in range(7)}
-    found = discharge.lane_flow(lane(), history((100.0, 130.0), (200.0, 230.0)), {LANE: passed}, stood)
-    assert found == LaneFlow(1, LANE, 1, 6, 1800, 2.5)
-    assert discharge.lane_flow(lane(), history((200.0, 230.0)), {LANE: passed}, stood) is None
+    passed = [(100.0 + at, True) for at in times] + [(122.9, False), (125.0, True)]
+    passed += [(200.0 + at, True) for at in times[:7]] + [(200.0 + at + 10, True) for at in times[7:]]
+    both = history((100.0, 130.0), (200.0, 240.0))
+    assert discharge.lane_flow(lane(), both, {LANE: passed}) == LaneFlow(1, LANE, 1, 6, 1800, 2.5)
+    assert discharge.lane_flow(lane(), history((200.0, 240.0)), {LANE: passed}) is None
 
 
 @pytest.mark.parametrize(
@@ -59,6 +58,7 @@ def test_a_difference_is_said_beyond_five_percent_and_half_a_second(saturation, 
 
 def test_a_queue_has_who_creeps_and_who_waits_to_get_in():
     """Little's law: three who wait 10, 20 and 30 s, and one who still waits after 25 s."""
+
     def trip(name: str, arrived: float, released: float) -> Trip:
         row = Passage(1, "EBT", 2, arrived, released, released - arrived, False, False)
         return Trip(name, "east", Kind.CAR, (row,), 0.0, 90.0, 0.0, 0)
