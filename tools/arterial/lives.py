@@ -88,7 +88,7 @@ class Street:
         self._number, self._loads = 0, dict.fromkeys(range(1, self.cabinets + 1), 0)
         self._record = SessionRecord(scenario)
         self._session = opened(scenario, path, seconds)
-        weakref.finalize(self, self._session.end)
+        weakref.finalize(self, end_here, os.getpid(), self._session.end)
         self._heard(self._session.opened)
 
     def _heard(self, answer: list[bytes]) -> None:
@@ -326,6 +326,12 @@ class Street:
             if load is not None:
                 return outcome(load)
         raise Error("the cabinet ended no download")
+
+
+def end_here(owner: int, end: Callable[[], object]) -> None:
+    """Ends what a process has started, if this is that process: its children have copies of what it holds."""
+    if os.getpid() == owner:
+        end()
 
 
 def opened(scenario: dict[str, Any], path: str | os.PathLike[str], seconds: float) -> session.Session:

@@ -85,7 +85,7 @@ class Street:
         self.arrive(step)
         for change in changes:
             self.turn(change, step)
-        self.discharge(step, (step + 1) * self.size)
+        self.discharge(step, step * self.size + self.size)
 
     def arrive(self, step: int) -> None:
         """Takes those who reach a stop line, or drive over the detector ahead of it, in a step."""
