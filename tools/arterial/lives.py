@@ -425,8 +425,14 @@ class AsyncStreet:
 
     def __init__(self, make: Callable[[], Street]) -> None:
         self._make, self._order = make, asyncio.Lock()
-        self.street: Street
+        self._street: Street | None = None
+
+    @property
+    def street(self) -> Street:
         """The session behind: its `shown`, `trace`, `time_s` and `left` can be read at any time."""
+        if self._street is None:
+            raise Over("the session isn't open: use it within async with")
+        return self._street
 
     async def _do(self, does: Callable[P, R], *given: P.args, **named: P.kwargs) -> R:
         """Does something in a thread, after all that was asked for before; a caller that is cancelled leaves the
@@ -440,7 +446,7 @@ class AsyncStreet:
                 raise
 
     async def __aenter__(self) -> Self:
-        self.street = await self._do(self._make)
+        self._street = await self._do(self._make)
         return self
 
     async def __aexit__(self, kind: object, *_: object) -> None:

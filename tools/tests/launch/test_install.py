@@ -162,3 +162,7 @@ def test_a_package_names_its_commit_and_what_it_needs_and_is_the_same_each_time(
         assert one.read() == two.read()
     subprocess.run(["dpkg-deb", "--extract", first, tmp_path / "root"], check=True)
     assert done(tmp_path / "root/usr/bin/arterial", "generate", input="") == (7, "words generate\n", "")
+    site = tmp_path / "root/usr/lib/python3/dist-packages"
+    asked = "import arterial; print(arterial.program().is_proved, arterial.live.__name__)"
+    said = done("/usr/bin/python3", "-B", "-c", asked, env={"PYTHONPATH": str(site), "PATH": "/usr/bin:/bin"}, cwd="/")
+    assert said == (0, "True live\n", "")
