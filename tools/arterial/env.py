@@ -33,6 +33,7 @@ from streettools.shared.cells import tables_of
 from . import spaces
 from .errors import Error, Over, Refused, own
 from .given import value_of
+from .lives import end_here
 from .programs import path_of
 from .traces import Trace
 from .traffic import Queues, read
@@ -76,7 +77,7 @@ class StreetEnv:
     - `scenario`: the cabinets, as for `arterial.run`; its own inputs of detectors and buttons are left out;
     - `volumes`: the traffic: the path of a file of volumes (docs/QUEUES.md), or its content as a dict;
     - `sumo`: in place of volumes, the path of a configuration of SUMO (.sumocfg) and that of the street's map. A
-      process has one SUMO at a time. A vehicle waits if it has stopped on the last lane before a stop line, which is
+      process has one SUMO at a time. Vehicles slower than 0.1 m/s on the last lane before a stop line wait, which is
       checked once a second; `passed` counts the vehicles that arrived;
     - `seconds`: the length of an episode; `step_s`: the seconds of a step, a multiple of `sample_s`; `sample_s`: the
       seconds between two samples of the detectors (0.1, 0.2, 0.5 or 1);
@@ -194,7 +195,7 @@ class StreetEnv:
         drawn = seed if seed is not None else self._random.getrandbits(32)
         with own():
             self._run = self._make(self._program, SAMPLES[self.sample_s], drawn, self._keeps)
-        self._finalizer = weakref.finalize(self, self._run.end)
+        self._finalizer = weakref.finalize(self, end_here, os.getpid(), self._run.end)
         self._letters = [b"R" * 16] * self.cabinets
         self._view: Observation = numpy.zeros((self.cabinets, 3, 16), dtype=numpy.float32)
         self._began = numpy.zeros((self.cabinets, 16), dtype=numpy.float32)

@@ -88,7 +88,7 @@ class Street:
         self._number, self._loads = 0, dict.fromkeys(range(1, self.cabinets + 1), 0)
         self._record = SessionRecord(scenario)
         self._session = opened(scenario, path, seconds)
-        weakref.finalize(self, self._session.end)
+        weakref.finalize(self, end_here, os.getpid(), self._session.end)
         self._heard(self._session.opened)
 
     def _heard(self, answer: list[bytes]) -> None:
@@ -328,6 +328,12 @@ class Street:
         raise Error("the cabinet ended no download")
 
 
+def end_here(owner: int, end: Callable[[], object]) -> None:
+    """Ends what a process has started, if this is that process: its children have copies of what it holds."""
+    if os.getpid() == owner:
+        end()
+
+
 def opened(scenario: dict[str, Any], path: str | os.PathLike[str], seconds: float) -> session.Session:
     """Returns the program's session of a scenario; one that it refuses is raised with words."""
     try:
@@ -419,8 +425,14 @@ class AsyncStreet:
 
     def __init__(self, make: Callable[[], Street]) -> None:
         self._make, self._order = make, asyncio.Lock()
-        self.street: Street
+        self._street: Street | None = None
+
+    @property
+    def street(self) -> Street:
         """The session behind: its `shown`, `trace`, `time_s` and `left` can be read at any time."""
+        if self._street is None:
+            raise Over("the session isn't open: use it within async with")
+        return self._street
 
     async def _do(self, does: Callable[P, R], *given: P.args, **named: P.kwargs) -> R:
         """Does something in a thread, after all that was asked for before; a caller that is cancelled leaves the
@@ -434,7 +446,7 @@ class AsyncStreet:
                 raise
 
     async def __aenter__(self) -> Self:
-        self.street = await self._do(self._make)
+        self._street = await self._do(self._make)
         return self
 
     async def __aexit__(self, kind: object, *_: object) -> None:

@@ -154,7 +154,8 @@ class LinkFault:
 class Scenario:
     """A scenario: what `arterial.run` and `arterial.live` take (docs/SCENARIO.md).
 
-    The program judges it; `faults()` lists what is wrong with names, kinds and ranges without it.
+    `faults_of_link` is the name `faults` of JSON. The program judges a scenario; `faults()` lists what is wrong with
+    names, kinds and ranges without it.
 
     >>> import arterial
     >>> street = arterial.Scenario(rounds=60, cabinets=[arterial.Cabinet(base="max8")])

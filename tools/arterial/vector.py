@@ -17,8 +17,11 @@ SECONDS = 10.0
 """How long a process may take to end."""
 
 
-def serve(make: Callable[[], Any], pipe: Connection) -> None:
-    """Serves an environment in a process: answers each request with its result, or with the exception."""
+def serve(make: Callable[[], Any], pipe: Connection, others: list[Connection]) -> None:
+    """Serves an environment in a process: answers each request with its result, or with the exception, until its pipe
+    is closed. `others` are the ends of pipes that belong to the caller's process."""
+    for it in others:
+        it.close()
     with contextlib.suppress(EOFError, BrokenPipeError, KeyboardInterrupt):
         try:
             env = make()
@@ -90,7 +93,7 @@ class VectorEnv:
         try:
             for _ in range(count):
                 here, there = context.Pipe()
-                process = context.Process(target=serve, args=(make, there), daemon=True)
+                process = context.Process(target=serve, args=(make, there, [*self._pipes, here]), daemon=True)
                 process.start()
                 there.close()
                 self._pipes.append(here)

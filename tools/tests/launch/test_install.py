@@ -77,6 +77,15 @@ def test_the_installed_program_takes_files_and_tools_and_needs_no_kit(whole, tmp
     )
 
 
+def test_the_installed_package_finds_the_installed_program_and_its_proof(whole, tmp_path):
+    to = tmp_path / "prefix"
+    done(whole.top / "tools/install", "--prefix", to)
+    (site,) = (to / "lib").glob("python3.*/site-packages")
+    asked = "import arterial; it = arterial.program(); print(it.path, it.is_proved, len(arterial.env.__doc__) > 9)"
+    said = done("/usr/bin/python3", "-B", "-c", asked, env={"PYTHONPATH": str(site), "PATH": "/usr/bin:/bin"}, cwd="/")
+    assert said == (0, f"{to}/lib/arterial/arterial True True\n", "")
+
+
 def test_what_was_installed_is_removed_and_nothing_else(whole, tmp_path):
     to = tmp_path / "prefix"
     (to / "bin").mkdir(parents=True)
@@ -158,3 +167,7 @@ def test_a_package_names_its_commit_and_what_it_needs_and_is_the_same_each_time(
         assert one.read() == two.read()
     subprocess.run(["dpkg-deb", "--extract", first, tmp_path / "root"], check=True)
     assert done(tmp_path / "root/usr/bin/arterial", "generate", input="") == (7, "words generate\n", "")
+    site = tmp_path / "root/usr/lib/python3/dist-packages"
+    asked = "import arterial; print(arterial.program().is_proved, arterial.live.__name__)"
+    said = done("/usr/bin/python3", "-B", "-c", asked, env={"PYTHONPATH": str(site), "PATH": "/usr/bin:/bin"}, cwd="/")
+    assert said == (0, "True live\n", "")

@@ -10,6 +10,8 @@ import sys
 
 import pytest
 
+from ..shared.conftest import is_gone
+
 TOP = pathlib.Path(__file__).resolve().parents[3]
 sys.dont_write_bytecode = True
 sys.path.insert(0, str(TOP / "tools"))
@@ -45,18 +47,6 @@ def named(program, monkeypatch):
     monkeypatch.setenv("ARTERIAL_PROGRAM", str(program))
 
 
-def still_runs(group: int) -> bool:
-    """Tells whether a process of a group runs; one that has ended and that nobody waited for doesn't."""
-    for path in pathlib.Path("/proc").glob("[0-9]*/stat"):
-        try:
-            state, _, its = path.read_text().rpartition(")")[2].split()[:3]
-        except OSError:
-            continue
-        if int(its) == group and state != "Z":
-            return True
-    return False
-
-
 @pytest.fixture
 def script(tmp_path, monkeypatch):
     """Writes a program for the package, and says afterwards that none of it runs any longer."""
@@ -69,4 +59,4 @@ def script(tmp_path, monkeypatch):
         return path
 
     yield done
-    assert not any(map(still_runs, map(int, pids.read_text().split() if pids.exists() else ())))
+    assert all(map(is_gone, map(int, pids.read_text().split() if pids.exists() else ())))

@@ -10,7 +10,8 @@ import arterial.env
 import numpy
 import pytest
 
-from .conftest import OPENING, TOP, still_runs
+from ..shared.conftest import is_gone
+from .conftest import OPENING, TOP
 
 STREET = TOP / "scenarios/street.json", TOP / "scenarios/street.volumes.toml"
 RECALL = {"version": 1, "rounds": 300, "ticks": 10, "cabinets": [{"pattern": 1}]}
@@ -222,7 +223,7 @@ def test_a_process_that_is_killed_is_reported():
     with pytest.raises(arterial.Error, match="has ended"):
         both.reset(seed=1)
         both.step([[0], [0]])
-    assert not still_runs(pid)
+    assert is_gone(pid)
 
 
 @pytest.mark.skipif(shutil.which("sumo") is None, reason="SUMO is missing: apt-get install -y sumo sumo-tools")

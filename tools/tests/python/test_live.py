@@ -2,6 +2,7 @@
 
 import asyncio
 import gc
+import signal
 import threading
 import time
 
@@ -175,6 +176,25 @@ def test_an_exception_in_the_block_ends_the_program_and_keeps_whole_rounds(scrip
     assert street.trace.seconds == 2.0 and arterial.check(street.trace)
 
 
+def test_a_session_that_is_interrupted_ends_and_keeps_whole_rounds(script):
+    """The first round is answered, the second hangs when Ctrl-C comes."""
+    script(OPENING + "read line; printf 'J 1 4*10\\nR 2\\n.\\n'\nread line; sleep 60 & wait\n")
+
+    def interrupt(number, frame):
+        raise KeyboardInterrupt
+
+    before = signal.signal(signal.SIGALRM, interrupt)
+    try:
+        with pytest.raises(KeyboardInterrupt):
+            with arterial.live(ONE) as street:
+                street.tick(10)
+                signal.setitimer(signal.ITIMER_REAL, 0.3)
+                street.tick(10)
+    finally:
+        signal.signal(signal.SIGALRM, before)
+    assert street.is_over and street.trace.seconds == 1.0
+
+
 def test_a_session_that_is_forgotten_leaves_no_process(script):
     script(OPENING + "sleep 60 & wait")
     street = arterial.live(ONE)
@@ -211,6 +231,13 @@ def test_a_task_that_is_cancelled_leaves_a_session_that_can_be_used():
 
     street, step = asyncio.run(does())
     assert step.time_s in (1.0, 7.0) and arterial.check(street.trace)
+
+
+def test_a_session_of_asyncio_is_used_within_its_block():
+    street = arterial.live_async(ONE)
+    for does in (street.tick, lambda: street.trace, lambda: street.get(1, "coordPatternStatus")):
+        with pytest.raises(arterial.Over, match="async with"):
+            does()
 
 
 def test_exceptions_of_asyncio_are_those_of_the_package(script):

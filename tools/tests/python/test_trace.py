@@ -151,6 +151,24 @@ def test_all_traces_of_the_examples_have_tables(program):
             getattr(trace, table)()
 
 
+def test_greens_are_counted_as_the_report_counts_them(street):
+    """`arterial look report` reads the same trace by its own collector: services, their mean and how they ended."""
+    import io
+
+    from streettools.look import called, report
+    from streettools.shared.trace_reader import TraceReader
+
+    found = street.greens()
+    ended = found[found.ending != "still green"]
+    for row in report.collect(TraceReader(io.BytesIO(street.text)), called.Called())["cabinets"]:
+        for it in row["phases"]:
+            own = ended[(ended.cabinet == row["cabinet"]) & (ended.phase == it["phase"])]
+            assert own.ending.value_counts().to_dict() == it["ended"]
+            assert own.green_s.mean().round(2) == it["green"]["mean"] and own.green_s.max() == it["green"]["greatest"]
+            everything = found[(found.cabinet == row["cabinet"]) & (found.phase == it["phase"])]
+            assert len(everything) == it["services"]
+
+
 def test_pictures_come_in_one_call_and_leave_the_readers_settings(street, tmp_path):
     from matplotlib import pyplot
 

@@ -102,9 +102,11 @@ def test_the_wheel_needs_what_the_list_of_packages_says():
     reason="pip is missing: apt-get install -y python3-pip python3-venv",
 )
 def test_pip_installs_it_without_a_network_and_a_users_code_runs(program, tmp_path):
-    """In a fresh virtual environment with Debian's packages; nothing is left in the checkout."""
+    """In a fresh virtual environment with Debian's packages, as docs/PYTHON.md says; a notebook runs in it if Jupyter
+    is there. Nothing is left in the checkout."""
     before = sorted(it.name for it in TOP.iterdir())
     names = {"PATH": "/usr/bin:/bin", "HOME": str(tmp_path), "ARTERIAL_PROGRAM": str(program)}
+    names |= {name: os.environ[name] for name in ("PYTHONPATH",) if name in os.environ}
     for words in (
         ["/usr/bin/python3", "-m", "venv", "--system-site-packages", "bench"],
         ["bench/bin/pip", "install", "-q", "--no-index", "--no-compile", "--disable-pip-version-check", TOP],
@@ -119,4 +121,16 @@ def test_pip_installs_it_without_a_network_and_a_users_code_runs(program, tmp_pa
     ran = subprocess.run(words, cwd=tmp_path, env=names, capture_output=True, text=True, timeout=SECONDS)
     found = os.path.join(tmp_path, "bench/lib/python3.11/site-packages/arterial/__init__.py")
     assert ran.stdout == f"{found} True 2\n", ran.stderr
+    if not importlib.util.find_spec("nbconvert") or not importlib.util.find_spec("ipykernel"):
+        return
+    notebook = TOP / "docs/notebooks/plan.ipynb"
+    for words in (
+        ["-m", "ipykernel", "install", "--sys-prefix"],
+        ["-m", "nbconvert", "--to", "notebook", "--execute", f"--output={tmp_path / notebook.name}", notebook.name],
+    ):
+        words = [tmp_path / "bench/bin/python3", *words]
+        ran = subprocess.run(
+            words, cwd=notebook.parent, env=names, capture_output=True, text=True, timeout=SECONDS
+        )
+        assert ran.returncode == 0, ran.stderr[-2000:]
     assert sorted(it.name for it in TOP.iterdir()) == before
