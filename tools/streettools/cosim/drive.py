@@ -4,16 +4,17 @@ TraCI, which takes several times as long.
 
 import contextlib
 import importlib
+import math
 import os
 import pathlib
 import sys
-import xml.etree.ElementTree as xml
 from collections.abc import Callable, Iterator
 from dataclasses import dataclass
 from typing import Any
 
 from ..shared.fault import Fault
 from ..shared.status import Status
+from .xml_file import root_of
 
 TOOLS = "/usr/share/sumo/tools"
 TRIPS, ROUTES, STOPS, LOG = "tripinfo.xml", "vehroutes.xml", "stops.xml", "sumo.log"
@@ -56,22 +57,18 @@ class Config:
 
 def read_config(path: pathlib.Path) -> Config:
     """Reads a configuration."""
-    try:
-        root = xml.parse(path).getroot()
-    except OSError as fault:
-        raise Fault(f"{path}: {fault.strerror or fault}", Status.FILE) from None
-    except xml.ParseError as fault:
-        raise Fault(f"{path}: no XML: {fault}") from None
+    root = root_of(path)
     values = {it.tag: it.attrib["value"] for it in root.iter() if "value" in it.attrib}
     network = values.get("net-file") or values.get("net") or values.get("n")
     if not network:
         raise Fault(f"{path}: no configuration of SUMO: net-file is missing")
     files = values.get("additional-files") or values.get("additional") or values.get("a") or ""
     additional = tuple(path.parent / it.strip() for it in files.split(",") if it.strip())
-    try:
+    begin, end = math.nan, math.nan
+    with contextlib.suppress(ValueError):
         begin, end = float(values.get("begin", 0)), float(values.get("end", -1))
-    except ValueError:
-        raise Fault(f"{path}: begin and end have to be seconds") from None
+    if not math.isfinite(begin + end):
+        raise Fault(f"{path}: begin and end have to be seconds")
     return Config(path, path.parent / network, additional, begin, end if end > 0 else None)
 
 

@@ -5,7 +5,6 @@ right of way is that of SUMO: links of vehicles by incoming lanes, then the cros
 """
 
 import functools
-import gzip
 import itertools
 import math
 import pathlib
@@ -16,7 +15,7 @@ from dataclasses import dataclass, field
 from typing import NamedTuple
 
 from ..shared.fault import Fault
-from ..shared.status import Status
+from .xml_file import root_of
 
 OF_TRAINS = ("rail_crossing", "rail_signal")
 """Kinds of junctions whose signals SUMO switches by the trains themselves; no cabinet has them."""
@@ -145,13 +144,7 @@ def heading(shape: str) -> float:
 @functools.lru_cache(maxsize=8)
 def read(path: pathlib.Path) -> Network:
     """Reads a network; one that can't be read is a fault."""
-    try:
-        with gzip.open(path) if path.suffix == ".gz" else open(path, "rb") as text:
-            root = xml.parse(text).getroot()
-    except OSError as fault:
-        raise Fault(f"{path}: {fault.strerror or fault}", Status.FILE) from None
-    except xml.ParseError as fault:
-        raise Fault(f"{path}: no XML: {fault}") from None
+    root = root_of(path)
     if root.tag != "net":
         raise Fault(f"{path}: no network of SUMO: its first element is {root.tag}")
     found = Network(path)

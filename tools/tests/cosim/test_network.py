@@ -1,5 +1,6 @@
 """What is read of a network, beside what SUMO itself says of it: its default programs, which its netconvert makes."""
 
+import gzip
 import itertools
 
 import pytest
@@ -46,7 +47,7 @@ def test_the_way_over_a_junction_is_that_between_the_stop_lines():
 @pytest.mark.parametrize(("before", "after", "line"), [
     (' length="', ' size="', "lane without length"), (' index="', ' place="', "without index"),
     ("<edge id=", "<edge name=", "edge without id"), (' toLane="', ' lane="', "is missing"),
-    (' speed="', ' speed="fast', "could not convert"),
+    (' speed="', ' speed="fast', "could not convert"), ("UTF-8", "UTF-99", "unknown encoding"),
 ])  # fmt: skip
 def test_a_network_that_lacks_what_a_network_has_is_refused_in_one_line(tmp_path, before, after, line):
     path = tmp_path / "x.net.xml"
@@ -56,4 +57,15 @@ def test_a_network_that_lacks_what_a_network_has_is_refused_in_one_line(tmp_path
     with pytest.raises(Fault) as refused:
         network.read(path)
     said = str(refused.value)
-    assert said.startswith(f"{path}: no network of SUMO: ") and line in said and "\n" not in said
+    assert said.startswith((f"{path}: no network of SUMO: ", f"{path}: no XML: "))
+    assert line in said and "\n" not in said
+
+
+def test_a_network_that_is_not_compressed_as_its_name_says_is_refused_in_one_line(tmp_path):
+    """No file of gzip, one that is cut off, one with a damaged octet."""
+    packed = gzip.compress((TEE / "tee.net.xml").read_bytes())
+    for octets in (b"<net/>", packed[:-50], packed[:40] + b"\xff\xff" + packed[42:], b""):
+        (tmp_path / "x.net.xml.gz").write_bytes(octets)
+        with pytest.raises(Fault) as refused:
+            network.read.__wrapped__(tmp_path / "x.net.xml.gz")
+        assert "\n" not in str(refused.value)

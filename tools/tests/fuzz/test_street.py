@@ -19,7 +19,8 @@ from streettools.street.street import Street
 from .conftest import TOP
 from .damage import damaged, damaged_values, tried
 
-PROGRAM = pathlib.Path(os.environ.get("ARTERIAL_PROGRAM", TOP / "crates/arterial/out/arterial"))
+BUILT = pathlib.Path(os.environ.get("ARTERIAL_PROGRAM", TOP / "crates/arterial/out/arterial"))
+PROGRAM = BUILT if BUILT.is_file() else TOP / "model/program"
 SCENARIO = {"version": 1, "rounds": 1, "ticks": 5, "cabinets": [{"cells": [["preempt", 1, 13, "0206"]]}, {}]}
 ORDERS = [
     {"do": "input", "kind": "veh", "cabinet": 1, "place": 4, "on": True},
