@@ -107,7 +107,7 @@ few-read streams left h p tallied short = elim (cases_lt p 4) [
   ]
 ]
 
--- all items are still told where the ticks are all pass 4's
+-- all items are still given where the ticks are all pass 4's
 pub joined-tallied : (streams : Streams) (left : List ℕ) (ticks : ℕ) (old new : Happened) → ticks ≡ ticks_left left → AreTallied streams left old
     → journal_in new ≡ read_journal (journal_in old) → AreTallied streams (joined_left left ticks) new
 joined-tallied streams left ticks old new all tallied goes =

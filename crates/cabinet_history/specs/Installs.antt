@@ -1,4 +1,4 @@
--- How many downloads can have been put in force, by where the last that began stands.
+-- How many downloads can have been put in force, by where the last that began is.
 use Rattle.std.specs.Prelude.{ℕ, ◌≡◌, ◌<◌, ◌≤◌}
 use Rattle.stage_txn.specs.declared.StageState.{StageState}
 use Rattle.stage_txn.specs.declared.StageState.TheVariants.{Rest, Open, Checked, Done}

@@ -49,7 +49,7 @@ abbrev pub with_run : ℕ → List (ℕ × ℕ) → List (ℕ × ℕ)
 with_run pass [] = (pass, 1) ∷ []
 with_run pass (run ∷ runs) = if pass == run.0 then (pass, run.1 + 1) ∷ runs else (pass, 1) ∷ run ∷ runs
 
--- the longest runs of one pass in a journal: each a pass, and how often in a row it stands
+-- the longest runs of one pass in a journal: each a pass, and how often in a row it is
 abbrev pub runs_of : List ℕ → List (ℕ × ℕ)
 runs_of [] = []
 runs_of (pass ∷ journal) = with_run pass (runs_of journal)

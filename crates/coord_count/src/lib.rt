@@ -13,7 +13,7 @@ mod passing;
 use limits::{ADD_ONLY, DWELL, SHORTWAY};
 pub use limits::{Limits, needed};
 
-/// The counter of the last frame, in ticks since local zero; how often it stood still and how often it skipped a tick since
+/// The counter of the last frame, in ticks since local zero; how often it waited and how often it skipped a tick since
 /// it last changed to 0, or since the pickup; and whether the last step changed it.
 #[derive(Clone, Copy)]
 pub struct Count {

@@ -48,7 +48,7 @@ lex-token (boolean false) r h ended = ap₂ (λ b l. token (cond b (boolean fals
 lex-token null r h ended = ap₂ (λ b l. token (cond b null bad) ∷ l) (ended refl) (in_word-ended r (ended refl))
 lex-token bad r h ended = refl
 
--- after a value stands a comma, a closing bracket or what follows all
+-- a value is followed by a comma, a closing bracket or the end of all
 value_ends : (ts : List Token) (r : List ℕ) → ends_word r ≡ true → ends_word (print_from true ts ++ r) ≡ true
 unfolding print_from
 value_ends [] r h = h

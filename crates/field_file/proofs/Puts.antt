@@ -10,7 +10,7 @@ use Rattle.scenario_read.proofs.KnownNames.{known-put}
 use Rattle.scenario_read.proofs.NameOrder.{apart}
 use Rattle.scenario_read.proofs.NoFaults.{none-left, none-both}
 
--- at another name stands what was there
+-- another name has what was there
 pub value-other : (f : Field) (k : List ℕ) (v : Data) (ms : Members) → bytes_eq f.name k ≡ false → value_of f (object (put k v ms)) ≡ value_of f (object ms)
 value-other f k v ms other = ap (λ (o : Option Data). either o f.default) (get_member-put_other f.name k v ms (apart f.name k other))
 

@@ -15,7 +15,7 @@ use Rattle.field_read.specs.declared.respond.Respond.{Respond}
 use Rattle.field_read.specs.declared.named.Field.{Field}
 use Rattle.field_read.specs.Table.{detector, delay, extend, no_activity, max_presence, erratic, up, down, pattern, section, base, steps, period, sections, respond, bank, pulses}
 
--- a section's rule, and the rules of all, apart from the memory in which their lists stand
+-- a section's rule, and the rules of all, without the memory that holds their lists
 pub record RuleContent : Type 0 where
   pub section : ℕ
   pub base : ℕ

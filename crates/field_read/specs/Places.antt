@@ -1,4 +1,4 @@
--- Where in a field file a reader stands, and what its parts say.
+-- Where in a field file a reader is, and what its parts say.
 use Rattle.std.specs.Prelude.{ℕ, ◌≡◌, ◌*◌, ◌+◌, ◌<◌, ◌≤◌, Bool, false, List, [], ◌∷◌, length, get_or, codes, option_map}
 use Rattle.serde_json.specs.Data.{Data}
 use Rattle.scenario_read.specs.Paths.{Step as PathStep, Named}

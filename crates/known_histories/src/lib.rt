@@ -137,7 +137,7 @@ pub fn floating_force()
     ensures { told_of floating_force_history ≡ floating_force_told }
 {}
 
-/// Offsets that refer to the end of green: the target stands the window ahead, and the counter dwells towards it.
+/// Offsets that refer to the end of green: the target is ahead by the window, and the counter dwells towards it.
 pub fn end_of_green()
     ensures { told_of end_of_green_history ≡ end_of_green_told }
 {}

@@ -47,7 +47,7 @@ same_rank Up Up = refl
 five : (a b c d e a2 b2 c2 d2 e2 : Bool) → a ≡ a2 → b ≡ b2 → c ≡ c2 → d ≡ d2 → e ≡ e2 → ((((a && b) && c) && d) && e) ≡ ((((a2 && b2) && c2) && d2) && e2)
 five a b c d e a2 b2 c2 d2 e2 p q r s t = cc
 
--- a fault meets the frames at whose place it stands
+-- a fault meets the frames at whose place it is
 meets_is : (line : Line) (round place : ℕ) (f : Fault) → is_eq (by_place f (fault_at line round place)) ≡ meets line round place f
 meets_is line round place f =
     let r = nat_cmp f.round round in

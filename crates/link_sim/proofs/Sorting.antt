@@ -1,4 +1,4 @@
--- Sorted lists: how far one is below an element, and where those stand that tie with it.
+-- Sorted lists: how far one is below an element, and where those are that tie with it.
 use Rattle.std.proofs.Common.{◌≡◌, ◌≤◌, ◌<◌, ◌+◌, ◌&&◌, ℕ, zero, suc, Bool, true, false, not, cond, List, [], ◌∷◌, length, take, drop, filter, get_or, Option, Some, None, Ordering, Less, Equal, Greater, refl, sym, ap, ◌∙◌, arith}
 use Rattle.std.specs.List.{find}
 use Rattle.std.specs.Cmp.{IsTotalOrder}

@@ -33,7 +33,7 @@ or_now (Some earlier) now m = Some earlier
 or_now None true m = Some m
 or_now None false m = None
 
--- the first Response to the last frame, told since it was sent
+-- the first Response to the last frame, received since it was sent
 abbrev pub answer : List LoadEvent → Option Message
 answer [] = None
 answer (AnswerTold m ∷ past) = or_now (answer past) (answers_frame (last_frame past) m) m

@@ -6,7 +6,7 @@ use ber_code::Oid;
 use oid_map::*;
 use sig_tables::Cell;
 
-/// Where the objects of NTCIP 1202 (asc) and those of the project (own) stand.
+/// Where the objects of NTCIP 1202 (asc) and those of the project (own) are.
 #[derive(Clone, Copy)]
 pub(crate) enum Root {
     Asc,

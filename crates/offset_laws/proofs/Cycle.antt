@@ -44,7 +44,7 @@ adds-one k t c before e left is x = record {
   to = elim x.to [ inl h ↦ inl (omega arith, omega arith) | inr h ↦ inr (omega arith, h.1) ];
 }
 
--- the last stand brings the counter onto the target
+-- the last wait brings the counter onto the target
 adds-last : (k : Correction) (t c : ℕ) (before : List ℕ) (e left : ℕ) → e + 1 ≡ k.cycle → next_counter k (c ∷ before) (tick_later k.cycle t) ≡ c
     → Ends k (tick_later k.cycle t) c (c ∷ before) 0 → AddsUp k t c before e (suc left)
 adds-last k t c before e left full is x = record {

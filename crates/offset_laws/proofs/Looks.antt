@@ -17,7 +17,7 @@ fits a b h = grind (arith, nat_tests)
 pub exceeds : (a b : ℕ) → b < a → nat_le a b ≡ false
 exceeds a b h = grind (arith, nat_tests)
 
--- a counter above 0 has not changed to it, nor has one that stands
+-- a counter above 0 has not changed to it, nor has one that waits
 pub counts-on : (d c : ℕ) → 1 ≤ d → changes_to_zero d c ≡ false
 counts-on d c h = rw (other d 0 (omega arith)) refl
 

@@ -3,7 +3,7 @@ use Rattle.std.specs.Prelude.{ℕ, zero, suc, true, ◌≡◌, ◌≤◌, ◌<�
 use Rattle.sig_tables.specs.Counting.{Correction, next_counter, last_counter, stands, begins_cycle, most_a_cycle}
 use Rattle.tick_laws.specs.Steps.{Steps}
 
--- the counter lies in the cycle, and has stood no more often than one cycle may
+-- the counter lies in the cycle, and has waited no more often than one cycle may
 pub record KeepsLimits (k : Correction) (past : List ℕ) : Type 0 where
   pub counter : last_counter past < k.cycle
   pub stood : stands past ≤ most_a_cycle k

@@ -39,7 +39,7 @@ use Rattle.overlap_report.specs.Overlaps.{HasEnded, AreInForce, AtCabinet, NoCab
 use Rattle.overlap_report.specs.BySeen.{IsUnbroken, SaysOfOverlap}
 use Rattle.overlap_report.proofs.Cabinets.{SomeOrNone, some-or-none, one-cabinet_state, one-by-version}
 
--- a fact of every overlap at a cabinet of which lines have told, where it breaks no rule
+-- a fact of every overlap at a cabinet that lines have reported, where it breaks no rule
 abbrev WhereUnbroken : (Timing → List ℕ → ℕ → (ℕ → Tables) → List Line → Type 0) → Type 0
 WhereUnbroken Fact = (cab : ℕ) (tables : ℕ → Tables) (lines : List Line) (by_version : List Tables) (parents : List ℕ) (trail yellow red : ℕ)
     → IsToldOf cab tables lines by_version → verdict by_version parents trail yellow red ≡ Ok tt
@@ -72,7 +72,8 @@ run_of text cab seen hs = record {
   kept = hs.kept;
 }
 
--- a cabinet of the trace of which all was seen: what it came to, what its lines told, and that the frames are those that have a line
+-- a cabinet of the trace of which all was seen: what it came to, what its lines reported, and that the frames are those
+-- that have a line
 record Found (text : List ℕ) (cab : ℕ) (seen : Seen) : Type 0 where
   run : TellsOfRun text
   cabinet : CabinetContent

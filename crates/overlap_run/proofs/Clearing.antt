@@ -21,7 +21,8 @@ record Since (s : Intersection) (p : ℕ) (colour : Colour) (first tick : ℕ) :
   during : (k : ℕ) → first ≤ k → k ≤ tick → colour_at s p k ≡ colour
   before : (k : ℕ) → k + 1 ≡ first → colour_at s p k ≢ colour
 
--- where the phase stands since it was Green at a tick: still or again Green; Yellow since later; or Clear, a whole yellow later
+-- the state of the phase since it was Green at a tick: still or again Green; Yellow since later; or Clear, a whole
+-- yellow later
 data ClearingStands (s : Intersection) (last p g tick : ℕ) : Type 0 where
   IsGreen : colour_at s p tick ≡ Green → ClearingStands s last p g tick
   IsYellow : (first : ℕ) → g < first → Since s p Yellow first tick → ClearingStands s last p g tick

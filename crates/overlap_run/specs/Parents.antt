@@ -1,4 +1,5 @@
--- When some parent of an overlap shows Green, by the frames of a cabinet that have a line: what a frame shows stands until the next one.
+-- When some parent of an overlap shows Green, by the frames of a cabinet that have a line: what a frame shows holds
+-- until the next one.
 use Rattle.std.specs.Prelude.{ℕ, ◌+◌, ◌≡◌, ◌≤◌, nat_le, Bool, false, if◌then◌else◌, List, [], ◌∷◌, drop}
 use Rattle.sig_types.specs.declared.frame.Colour.{Colour}
 use Rattle.sig_types.specs.declared.frame.Colour.TheVariants.{Green}

@@ -27,8 +27,8 @@ pub record AreByVersion (by_version : List Tables) (tables : ℕ → Tables) (la
   pub many : length by_version ≡ last + 1
   pub each : (v : ℕ) (d : Tables) → v ≤ last → get_or by_version v d ≡ tables v
 
--- a cabinet's lines of which a trace has told: its street is safe with the tables of each version, its versions are whole, and these are
--- the tables of the versions that it had
+-- a cabinet's lines that a trace has: its street is safe with the tables of each version, its versions are
+-- whole, and these are the tables of the versions that it had
 pub record IsToldOf (cab : ℕ) (tables : ℕ → Tables) (lines : List Line) (by_version : List Tables) : Type 0 where
   pub safe : Safe (intersection_of cab tables lines)
   pub whole : Whole cab lines

@@ -14,7 +14,7 @@ use Rattle.round_run.specs.CabinetStates.{HasRun, HaveRun, no_journals, TicksWit
 use Rattle.round_run.specs.Joined.{journals_in, AreShared, HaveMerged, Finishes}
 use Rattle.round_run.proofs.Sharing.{shared-whole}
 
--- lists that stand side by side
+-- lists that are side by side
 module _ {A : Type 0} (R : A → A → Type 0) where
   pub zip-length : (xs ys : List A) → AllZip R xs ys → length ys ≡ length xs
   zip-length [] [] h = refl

@@ -67,7 +67,7 @@ each-late s cab first (t ∷ ts) (j ∷ js) low =
     (other-acts cab first t.cabinet_history (round_acts s first t j) (λ e. absurd (omega (arith, low, e))))
     ∙ each-late s cab (first + 1) ts js (omega (arith, low))
 
--- what a cabinet has reached among these, and what lines told of it
+-- what a cabinet has reached among these, and what lines reported of it
 abbrev Found : ℕ → CabinetState → ℕ → List CabinetState → List Line → Type 0
 Found cab t first later lines = (u : CabinetState) × HasComeTo cab u first later × Tells cab lines t u
 

@@ -1,4 +1,4 @@
--- Where the scenario of a text stands: it is the text's value, or is at `scenario` of the object that this is.
+-- Where the scenario of a text is: it is the text's value, or is at `scenario` of the object that this is.
 use Rattle.std.specs.Prelude.{codes, unwrap_or, None}
 use Rattle.serde_json.specs.Data.{Data, null}
 use Rattle.serde_json.specs.Find.{get}

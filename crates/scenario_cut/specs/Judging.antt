@@ -20,7 +20,7 @@ use Rattle.scenario_cut.specs.declared.judge.Listing.TheVariants.{Cabinets, Inpu
 use Rattle.scenario_cut.specs.declared.listing.Judged.{Judged}
 use Rattle.scenario_cut.specs.declared.listing.ListVerdict.{ListVerdict}
 
--- the name of a list, and where it stands
+-- the name of a list, and where it is
 abbrev pub name_of : Listing → List ℕ
 name_of Cabinets = codes "cabinets"
 name_of Inputs = codes "inputs"

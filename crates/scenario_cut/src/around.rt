@@ -14,7 +14,7 @@ use crate::passing::{pass, pass_rest};
 use json::{Reader, Scratch, Token};
 use std::alloc::Global;
 
-/// What stands around the scenario of a text: nothing, or an object that has it at `scenario`.
+/// What is around the scenario of a text: nothing, or an object that has it at `scenario`.
 #[derive(Clone, Copy)]
 pub enum Around {
     Nothing,

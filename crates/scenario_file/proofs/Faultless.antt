@@ -84,7 +84,7 @@ frame-cabinets ms e =
     let i = none-left (field_faults [] d community) (fields_faults [] d (cabinets v ∷ master ∷ [])) h.1 in
     (none-left (field_faults [] d (cabinets v)) (fields_faults [] d (master ∷ [])) i.1).0
 
--- what a value says of its cabinets where this stands
+-- what a value says of its cabinets where this is there
 abbrev cabinets_said : ℕ → Option Data → List CabinetContent
 cabinets_said v o = list_in (cabinet_of v) (unwrap_or (either o None) null)
 

@@ -63,7 +63,7 @@ same-without old now same (member name d ms) =
     ap (λ rest. if old name then rest else member name d rest) (same-without old now same ms)
     ∙ ap (λ b. if b then without now ms else member name d (without now ms)) (same name)
 
--- where no more is to come, all stand
+-- if no more follows, all are there
 pub all-there : (gone : List ℕ → Bool) → ((name : List ℕ) → gone name ≡ false) → (ms : Members) → without gone ms ≡ ms
 all-there gone none no_members = refl
 all-there gone none (member name d ms) =

@@ -22,7 +22,7 @@ apart k l other same =
     let clash : true ≡ false = sym both ∙ other in
     absurd (cc)
 
--- the master that stands, or one that says nothing
+-- the master that is there, or one that says nothing
 abbrev pub master_or_none : Option Data → Data
 master_or_none o = unwrap_or (either o (Some (object no_members))) null
 

@@ -56,7 +56,7 @@ pass : (b : Bool) (c : Cause) (xs ys : List Cause) → (if b then xs else (c ∷
 pass true c xs ys e rest = rest e
 pass false c xs ys e rest = absurd (cc)
 
--- where neither name of a drift stands, the other names are known without these
+-- if neither name of a drift is there, the other names are known without these
 fewer-names : (path : List Step) (ms : Members) → get_member gain.name ms ≡ None → get_member lose.name ms ≡ None
     → unknown_faults (names all_fields) path ms ≡ [] → unknown_faults (names plain_fields) path ms ≡ []
 fewer-names path no_members no-gain no-lose e = refl

@@ -1,5 +1,5 @@
 -- The value of a scenario, from its frame: the same members, with the items of its lists where a list of empty objects,
--- or an empty one, stands. In the same way the master's schedule is in its frame.
+-- or an empty one, is. In the same way the master's schedule is in its frame.
 use Rattle.std.specs.Prelude.{ℕ, List, [], ◌≡◌, ◌||◌, Bool, true, false, codes, if◌then◌else◌, bytes_eq, Option, Some, None, Vec}
 use Rattle.std.specs.declared.alloc.Global.{Global}
 use Rattle.serde_json.specs.Events.{items_len}

@@ -11,7 +11,7 @@ use Rattle.scenario_file.specs.declared.master.MasterReading.{MasterReading}
 use Rattle.scenario_file.specs.declared.top.Whole.{Whole}
 use Rattle.scenario_file.specs.declared.top.Reading.{Reading}
 
--- the place of a name among these, which stand from this place on
+-- the place of a name among these, which are from this place on
 abbrev pub place_from : ℕ → List (List ℕ) → List ℕ → Option ℕ
 place_from i [] name = None
 place_from i (first ∷ names) name = if bytes_eq name first then Some i else place_from (suc i) names name

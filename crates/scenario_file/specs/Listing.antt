@@ -19,7 +19,7 @@ use Rattle.scenario_file.specs.declared.found.Reach.{Reach}
 use Rattle.scenario_file.specs.declared.listed.Listed.{Listed}
 use Rattle.scenario_file.specs.Growing.{written, inner_text, follows}
 
--- where a list at the top stands, and the schedule of the master
+-- where a list at the top is, and the schedule of the master
 abbrev pub list_path : List ℕ → List Step
 list_path name = Named name ∷ []
 

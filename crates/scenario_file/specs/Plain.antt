@@ -8,7 +8,7 @@ use Rattle.scenario_file.specs.declared.plain.NumberName.{NumberName}
 use Rattle.scenario_file.specs.declared.plain.NumberName.TheVariants.{Cabinet, Ped as PedNumber, Preempt as PreemptNumber, Round, Veh as VehNumber}
 use Rattle.scenario_file.specs.declared.plain.Plain.{Plain}
 
--- the name at which a number stands
+-- the name at which a number is
 abbrev pub number_name : NumberName → List ℕ
 number_name Cabinet = codes "cabinet"
 number_name PedNumber = codes "ped"
@@ -51,7 +51,7 @@ input_members i =
     member (codes "cabinet") (number (unsigned i.cabinet))
     (before_round i.field (member (codes "round") (number (unsigned i.round)) (behind_round i.field)))
 
--- the members of a detector, a push button or a preempt input stand, and none of another
+-- the members of a detector, a push button or a preempt input are there, and none of another
 abbrev pub FieldStands : Field → Plain → Type 0
 FieldStands (Veh phase on) p = (p.veh ≡ Some phase) × (p.ped ≡ None) × (p.preempt ≡ None) × (p.on ≡ Some on)
 FieldStands (Ped phase) p = (p.veh ≡ None) × (p.ped ≡ Some phase) × (p.preempt ≡ None) × (p.on ≡ None)

@@ -21,7 +21,7 @@ abbrev pub has_null : Members → Bool
 has_null no_members = false
 has_null (member name d ms) = is_some (as_null d) || has_null ms
 
--- the value at a name: where null stands, the one that was skipped
+-- the value at a name: where null is, the one that was skipped
 abbrev pub seen : (List ℕ → Data) → List ℕ → Data → Data
 seen passed name null = passed name
 seen passed name (boolean b) = boolean b

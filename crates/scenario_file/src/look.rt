@@ -1,4 +1,4 @@
-//! Whether an input looks plain, told from its bytes before its tokens are read. This only chooses how it is read.
+//! Whether an input looks plain, decided from its bytes before its tokens are read. This only chooses how it is read.
 
 /// The bytes after blanks.
 fn behind_blanks(mut text: &[u8]) -> &[u8] {

@@ -11,7 +11,7 @@ use json::{Reader, Token};
 use scenario_data::Input;
 use sig_types::Field;
 
-/// The names of an input at which a number stands.
+/// The names of an input at which a number is.
 #[derive(Clone, Copy)]
 pub(crate) enum NumberName {
     Cabinet,
@@ -100,7 +100,7 @@ impl Plain {
         Some(())
     }
 
-    /// The detector, the push button or the preempt input, where only one stands.
+    /// The detector, the push button or the preempt input, if there is only one.
     fn field(&self) -> Option<Field>
         ensures { IfSome result (λ field. FieldStands field self.now × FieldFits field) }
     {

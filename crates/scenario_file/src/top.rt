@@ -1,5 +1,5 @@
-//! The whole text of a scenario: an object whose lists are read item by item, and whose other members become a tree, with
-//! a list of empty objects where the cabinets stand, and an empty list where another list does.
+//! The whole text of a scenario: an object whose lists are read item by item, and whose other members become a tree,
+//! with a list of empty objects where the cabinets are, and an empty list where another list does.
 
 ghost use Rattle.std.specs.Prelude.{◌≡◌, ◌<◌, ◌≤◌, ℕ, List, true, length, Some, IfSome, IsUtf8, codes};
 ghost use Rattle.json.specs.Json.{value, members};

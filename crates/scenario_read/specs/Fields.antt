@@ -20,7 +20,7 @@ needed name kind = record { name = name; kind = kind; default = None }
 abbrev pub optional : List ℕ → Kind → Data → Field
 optional name kind default = record { name = name; kind = kind; default = Some default }
 
--- an object: its fields in order, and then lists of fields of which exactly one list stands
+-- an object: its fields in order, and then lists of fields of which exactly one list is there
 pub record Shape : Type 0 where
   pub fields : List Field
   pub alternatives : List (List Field)

@@ -25,7 +25,7 @@ use Rattle.scenario_read.specs.Table.{rounds, ticks, community, cabinets, master
 use Rattle.scenario_read.specs.Content.{number_at, text_of, list_in, cabinet_of, master_of, input_of, load_of, priority_of, frame_of, fault_of, events_at, version_number, round_count, cabinet_count}
 use Rattle.scenario_read.specs.Faults.{first_cause}
 
--- the name at which a list stands
+-- the name at which a list is
 abbrev pub list_name : TopList → List ℕ
 list_name Cabinets = codes "cabinets"
 list_name Inputs = codes "inputs"

@@ -91,7 +91,7 @@ fn listed_cell(list: &Value) -> Option<Cell>
     }
 }
 
-/// Where in its list the value of a cell stands.
+/// Where in its list the value of a cell is.
 fn value_place(cell: Cell) -> usize
     ensures { result ≡ value_place cell }
 {

@@ -181,7 +181,7 @@ read-little (Some bytes) (Some left) held line limit (rest, so, whole) short few
     let same : rest ≡ held ++ left = cc in
     omega (arith, ap (λ (ys : List ℕ). length ys) whole, length-append line rest, ap (λ (ys : List ℕ). length ys) same, length-append held left)
 
--- what is held is cut where its first newline stands
+-- what is held is cut where its first newline is
 pub cut-held : (held rest bytes : List ℕ) (place : ℕ) → StandsFirst 10 bytes place → bytes ≡ held → rest ≡ drop (place + 1) held → IsCut 10 held (take place held) rest
 cut-held held rest bytes place stands same is =
     subst (λ (ys : List ℕ). IsCut 10 held (take place held) ys) (sym is)

@@ -60,7 +60,7 @@ column-fits allowed old new c d kept put stood = elim (eqb_tells d c) [
 fits-as : (allowed : Allowed) (new put : Content) → new ≡ put → fits_in allowed put ≡ Ok tt → fits_in allowed new ≡ Ok tt
 fits-as allowed new put same fits = subst (λ (k : Content). fits_in allowed k ≡ Ok tt) (sym same) fits
 
--- in each column of a phase but 23 a number stands
+-- each column of a phase except 23 has a number
 number-stands : (r : PhaseTimes) (c : ℕ) → c ≢ 23 → phase_content r c ≡ Number (phase_number r c)
 number-stands r c short = elim (eqb_tells c 23) [ inl (t, last) ↦ absurd (short last) | inr (t, before) ↦ rw t refl ]
 
@@ -73,7 +73,7 @@ phase-number-fits r p c v first last fits stood =
     (phase-put (λ n. fits_in (phase_allowed c) (Number n) ≡ Ok tt) r c v first (omega arith) fits
     (fits-as (phase_allowed c) (Number (phase_number r c)) (phase_content r c) (sym (number-stands r c short)) stood))
 
--- up to column 11 of a preempt a number stands, from 12 on a list
+-- the columns of a preempt up to 11 have a number, those from 12 on a list
 preempt-number-stands : (r : Preempt) (c : ℕ) → c ≤ 11 → preempt_content r c ≡ Number (preempt_number r c)
 preempt-number-stands r c short = elim (leb_tells 12 c) [ inl (t, high) ↦ absurd (omega arith) | inr (t, low) ↦ rw t refl ]
 

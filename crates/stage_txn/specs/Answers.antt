@@ -1,4 +1,5 @@
--- Where a download stage stands, and what it answers to each call: the first line that applies. Lists have the newest first.
+-- The state of a download stage, and what it answers to each call: the first line that applies. Lists have the newest
+-- first.
 use Rattle.std.specs.Prelude.{ℕ, ◌+◌, ◌==◌, nat_le, nat_lt, ◌&&◌, Bool, true, false, if◌then◌else◌, List, [], ◌∷◌, Option, Some, None, Result, Ok, Err}
 use Rattle.sig_types.specs.declared.notes.Broken.{Broken}
 use Rattle.sig_types.specs.declared.notes.StageAnswer.{StageAnswer}
@@ -10,7 +11,8 @@ use Rattle.stage_txn.specs.declared.StageState.TheVariants.{Rest, Open, Checked,
 use Rattle.stage_txn.specs.Calls.{Call, Begin, Part, Verify, Finish}
 use Rattle.stage_txn.specs.Calls.{Answered, Deed, Began, Took, Closed, Installed, Reopened, Idle, deeds, kept_by, taken_by, staged_by}
 
--- where the stage stands: what came last of a begin, a verify that found all well, a finish that installed or that refused
+-- the state of the stage: what came last of a begin, a verify that found all well, a finish that installed or that
+-- refused
 abbrev pub stage_state_by : List Deed → StageState
 stage_state_by [] = Rest
 stage_state_by (Began id in_force ∷ past) = Open
@@ -32,7 +34,7 @@ taken past = taken_by (deeds past)
 abbrev pub staged : List Answered → Tables
 staged past = staged_by (deeds past)
 
--- where the stage stands
+-- the state of the stage
 abbrev pub stage_state : List Answered → StageState
 stage_state past = stage_state_by (deeds past)
 
@@ -41,7 +43,7 @@ abbrev pub is_open : StageState → Bool
 is_open Open = true
 is_open _ = false
 
--- the number that tells where a stage stands: 1 normal, 2 transaction, 3 verify, 6 done
+-- the number of the state of a stage: 1 normal, 2 transaction, 3 verify, 6 done
 abbrev pub state_code : StageState → ℕ
 state_code Rest = 1
 state_code Open = 2

@@ -15,7 +15,7 @@ pub use laws::{
     installs_what_keeps_the_rules, nothing_after_done, parts_come_in_order, staged_tables_in_range,
 };
 
-/// Where a stage stands: nothing was begun; parts are taken; all is verified; the tables were put in force.
+/// The state of a stage: nothing was begun; parts are taken; all is verified; the tables were put in force.
 #[derive(Clone, Copy, PartialEq, Eq)]
 pub enum StageState {
     Rest,
@@ -24,7 +24,7 @@ pub enum StageState {
     Done,
 }
 
-/// A cabinet's stage: the id of the last download that began, how many of its parts were taken, where it stands, the last
+/// A cabinet's stage: the id of the last download that began, how many of its parts were taken, where it is, the last
 /// answer, and the tables that the download comes to so far.
 #[derive(Drop)]
 pub struct Stage {
@@ -183,7 +183,7 @@ impl Stage {
         &self.tables
     }
 
-    /// Where the stage stands: 1 normal, 2 transaction, 3 verify, 6 done.
+    /// The state of the stage: 1 normal, 2 transaction, 3 verify, 6 done.
     pub fn state(&self) -> u8
         ensures { (calls : List Call) → StageStands self.now calls → result ≡ state_code (stage_state (answered calls)) }
     {

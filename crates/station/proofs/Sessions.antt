@@ -105,7 +105,7 @@ module _ (s : ScenarioContent) where
   text_so lines more done h goes =
       ap (λ (xs : List Answer). answers_text (Lines (open_lines s) ∷ xs)) (goes more) ∙ text-append (Lines (open_lines s) ∷ done) (answers_from s h more)
 
-  -- nothing was asked yet: the answer to the scenario stands
+  -- nothing was asked yet: the answer to the scenario is pending
   pub at_opening : (left ahead old new : Option (List ℕ)) → AreAhead left ahead [] → Appends old new (answer_text (Lines (open_lines s)))
       → IsAnswering left ahead old new s opened_session
   at_opening left ahead old new asked written = record {

@@ -57,7 +57,7 @@ kept serves locks h p (Ask request ∷ later) s n = kept serves locks h p later 
 kept serves locks h p (Cancel number ∷ later) s n = kept serves locks h p later s n
 kept serves locks h p (SetDrift gain lose ∷ later) s n = kept serves locks h p later s n
 
--- an input that locks a call which is not served makes it stand
+-- an input that locks a call which is not served makes it remain
 or-first : (a b : Bool) → a ≡ true → (a || b) ≡ true
 or-first true b h = refl
 or-first false b h = absurd (false≢true h)

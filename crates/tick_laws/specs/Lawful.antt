@@ -17,8 +17,8 @@ use Rattle.plan_facts.specs.Times.{TimesHold}
 use Rattle.plan_facts.specs.Plan.{PlanHolds}
 
 -- each enabled phase is in ring 1 or 2; concurrent phases are in different rings; phases of one side in different rings
--- are concurrent; the phases of start-up may be on together, and so may those that a defined pattern coordinates and those
--- that a preempt wants on; each defined pattern has a plan, in the order of which stands each enabled phase; and the times are
+-- are concurrent; the phases of start-up may be on together, and so may those that a defined pattern coordinates and
+-- those that a preempt wants on; each defined pattern has a plan, whose order has each enabled phase; and the times are
 -- long enough
 pub record Sound (t : Tables) : Type 0 where
   pub ring : (p : ℕ) → is_enabled t p ≡ true → (ring_of t p ≡ 1) ⊎ (ring_of t p ≡ 2)

@@ -62,7 +62,7 @@ fn comes_onto_the_offset_as_worked_by_hand(rt: HostRuntime) {
     let midnight = (700, 2, 100, 50, 30);
     // the target at the pickup, ticks since, the counter then
     let rows = [
-        // one tick late: eight local zeros, 1,000 ticks apart, then 99 more stands
+        // one tick late: eight local zeros, 1,000 ticks apart, then 99 more waits
         (dwell, 1, 100, 0),
         (dwell, 1, 101, 1),
         (dwell, 1, 999, 899),
@@ -83,7 +83,7 @@ fn comes_onto_the_offset_as_worked_by_hand(rt: HostRuntime) {
         (shortway, 30, 29, 58),
         (shortway, 30, 30, 60),
         (shortway, 30, 31, 61),
-        // 20 ticks short of local zero: one cycle of 20 stands, at every second tick
+        // 20 ticks short of local zero: one cycle of 20 waits, at every second tick
         (add_only, 880, 38, 19),
         (add_only, 880, 39, 19),
         (add_only, 880, 40, 20),

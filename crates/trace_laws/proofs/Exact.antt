@@ -18,7 +18,7 @@ refused-not-goes (Hears cab streams next) b line more rule refuses go = let (jou
 ended-not-goes : (a b : Script) (line : Line) (more : List Line) → a ≡ Ends → Goes a (line ∷ more) b → ⊥
 ended-not-goes a b line more e go = subst (λ (x : Script). Goes x (line ∷ more) b) e go
 
--- where a text stops, no line of a path stands
+-- where a text stops, there is no line of a path
 stops-not-line : LinesTell → (a b : Script) (left : List ℕ) (rule : ℕ) (line : Line) (more : List Line) (rest : List ℕ) → Stops a left rule → IsLine line → left ≡ line_text line ++ rest → Goes a (line ∷ more) b → ⊥
 stops-not-line tell a b left rule line more rest (Lacking unended) is e go = tell.some line rest is (sym e)
 stops-not-line tell a b left rule line more rest (Beyond l ended some) is e go = ended-not-goes a b line more ended go

@@ -1,5 +1,5 @@
 //! Which texts are traces, and which line of another text is the first at fault; the laws of both. A trace is the text
-//! of a run, for any journals; all runs of a scenario are one tree (`Script`), on which the laws stand.
+//! of a run, for any journals; all runs of a scenario are one tree (`Script`), on which the laws are built.
 //!
 //! What may be seen of a cabinet in a trace: its frames, its tables by version and its ticks; that only octets go over
 //! the link, that each line of a run is one that a trace may have, and that a text has one list of lines. It has no
