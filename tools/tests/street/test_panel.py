@@ -294,8 +294,8 @@ def test_no_step_of_the_work_for_pages_holds_the_street_up():
     panel.street = street
     state.began(street.scenario)
     octets = message(GET, 1, [((1, 3, 6, 1, *[1] * 1396), None)])
-    for number in range(260):
-        state.heard(b"frame 1 priority " + octets.hex().encode(), [b"A 1 %d -" % number])
+    for _ in range(260):
+        state.exchanged(1, octets, None)
     for tick in range(0, 12_000, 100):
         for number in range(1, 65):
             lamps = "".join("G" if (tick // 100 + place) % 4 else "R" for place in range(16))
