@@ -7,7 +7,7 @@ from typing import Any
 
 from ..shared.commandline import Parser, add_json, add_output, add_program, number
 from ..shared.progress import bar
-from ..shared.saying import say
+from ..shared.saying import say, say_replaced
 from ..shared.status import Status
 from .comparing import Comparison, Row, do_all, jobs_of, read_comparison, rows_of, without_walks
 from .totals import Mean
@@ -102,6 +102,7 @@ def main(given: list[str]) -> int:
     if comparison.step >= 1:
         say("cosim", "steps of 1 s lower SUMO's saturation flow: they are for looking; measure delay with step = 0.1")
     jobs = jobs_of(comparison, words.program, words.output, words.keep)
+    say_replaced("cosim", words.output / "comparison.json")
     words.output.mkdir(parents=True, exist_ok=True)
     progress = bar(len(jobs), "run")
     try:

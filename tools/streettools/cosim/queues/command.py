@@ -12,6 +12,7 @@ from ...shared.commandline import Parser, add_json, add_output, add_program, num
 from ...shared.fault import Fault
 from ...shared.given import content_of, toml_of
 from ...shared.program import found
+from ...shared.saying import say_replaced
 from ...shared.status import Status
 from .. import report
 from . import study as queue_study
@@ -128,6 +129,7 @@ def does(words: argparse.Namespace) -> int:
     study = queue_study.study_of(came, folder / "session.trace")
     value = report.collect(study, came.signals.greens)
     if came.trace is not None:
+        say_replaced("cosim", study.trace)
         write(folder, value, study, came.trace)
     sys.stdout.write(report.json_text(value) if words.json else report.text(value))
     sys.stdout.flush()
