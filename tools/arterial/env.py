@@ -77,8 +77,8 @@ class StreetEnv(spaces.Env):
     - `scenario`: the cabinets, as for `arterial.run`; its own inputs of detectors and buttons are left out;
     - `volumes`: the traffic: the path of a file of volumes (docs/QUEUES.md), or its content as a dict;
     - `sumo`: in place of volumes, the path of a configuration of SUMO (.sumocfg) and that of the street's map. A
-      process has one SUMO at a time; vehicles slower than 0.1 m/s on the last lane of an approach wait,
-      by a look once a second. `passed` counts those that arrived;
+      process has one SUMO at a time. Vehicles slower than 0.1 m/s on the last lane before a stop line wait, which is
+      checked once a second; `passed` counts the vehicles that arrived;
     - `seconds`: the length of an episode; `step_s`: the seconds of a step, a multiple of `sample_s`; `sample_s`: the
       seconds between two samples of the detectors (0.1, 0.2, 0.5 or 1);
     - `actions`: `patterns`: an action has for each cabinet the place of its pattern in `env.patterns`. `calls`: an

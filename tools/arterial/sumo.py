@@ -66,8 +66,8 @@ def phases_by_lane(street: Map) -> dict[str, tuple[int, int]]:
 
 
 class Sumo:
-    """SUMO under the cabinets of a session: what `Queues` offers. Vehicles wait if they are slower than 0.1 m/s on the
-    last lane of an approach, by a look once a second; `passed` are the vehicles that arrived where they wanted to."""
+    """SUMO under the cabinets of a session, with the interface of `Queues`. Vehicles slower than 0.1 m/s on the last
+    lane before a stop line wait, which is checked once a second; `passed` are the vehicles that arrived."""
 
     def __init__(
         self, program: str, scenario: dict[str, Any], parts: tuple[drive.Config, Map, network.Network],

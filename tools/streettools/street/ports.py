@@ -15,8 +15,8 @@ WAITING = 64
 ROOM = 1 << 20
 """The octets that the system is asked to hold for a port."""
 
-Asked = Callable[[int, bytes], Awaitable[bytes | None]]
-"""Returns the reply of a cabinet to a datagram, None where it is silent."""
+Asked = Callable[[int, bytes, tuple[str, int]], Awaitable[bytes | None]]
+"""Returns the reply of a cabinet to a datagram from an address and a port, None where it is silent."""
 
 
 def bracketed(address: str) -> str:
@@ -108,7 +108,7 @@ class Agent(asyncio.DatagramProtocol):
 
     async def answer(self, data: bytes, client: tuple[Any, ...]) -> None:
         """Answers a datagram where the cabinet does."""
-        reply = await self.asked(self.cabinet, data)
+        reply = await self.asked(self.cabinet, data, (client[0], client[1]))
         if reply is not None:
             self.transport.sendto(reply, client)
 

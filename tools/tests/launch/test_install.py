@@ -4,6 +4,7 @@ import gzip
 import os
 import shutil
 import subprocess
+import tomllib
 
 import pytest
 
@@ -157,6 +158,10 @@ def test_a_package_names_its_commit_and_what_it_needs_and_is_the_same_each_time(
         and "Depends: libc6 " in told
         and "python3" in told
     )
+    listed = tomllib.loads((TOP / "tools/packages.toml").read_text())["package"]
+    for field, groups in (("Recommends", ("tools", "page")), ("Suggests", ("traffic",))):
+        names = done("dpkg-deb", "--field", first, field)[1].strip().split(", ")
+        assert names == [it["name"] for it in listed if it["group"] in groups] and "python3-aiohttp" in told
     assert "root/root" in done("dpkg-deb", "--contents", first)[1]
     with open(first, "rb") as one, open(second, "rb") as two:
         assert one.read() == two.read()
