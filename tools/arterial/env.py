@@ -71,7 +71,7 @@ def weights_of(reward: "Reward") -> "Mapping[str, float] | Callable[[dict[str, f
     return {name: float(weight) for name, weight in found.items()}
 
 
-class StreetEnv:
+class StreetEnv(spaces.Env):
     """A street under traffic: vehicles wait in queues (docs/QUEUES.md), or SUMO drives them (docs/COSIM.md).
 
     - `scenario`: the cabinets, as for `arterial.run`; its own inputs of detectors and buttons are left out;

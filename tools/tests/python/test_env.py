@@ -4,6 +4,8 @@ import gc
 import os
 import shutil
 import signal
+import subprocess
+import sys
 
 import arterial
 import arterial.env
@@ -130,6 +132,33 @@ def test_a_step_may_have_several_samples():
     with env(step_s=5.0, sample_s=0.5) as it:
         rows = episode(it, lambda seen: [0])
     assert len(rows) == 25 and rows[3][2]["time_s"] == 15.0
+
+
+GYMNASIUM = """
+class Env:
+    pass
+
+class spaces:
+    class Box:
+        def __init__(self, *given):
+            self.given = given
+    MultiDiscrete = MultiBinary = Box
+"""
+"""What stands for gymnasium where it isn't installed: its names that the package uses."""
+
+
+def test_gymnasium_is_used_where_it_is_installed(tmp_path):
+    """In a process of its own, since the module is chosen when it is first imported."""
+    (tmp_path / "gymnasium.py").write_text(GYMNASIUM)
+    asked = (
+        "import arterial.env as it, gymnasium; "
+        "env = it.StreetEnv('scenarios/street.json', 'scenarios/street.volumes.toml'); "
+        "print(isinstance(env, gymnasium.Env), env.action_space.given, env.observation_space.given[2])"
+    )
+    names = os.environ | {"PYTHONPATH": f"{tmp_path}:{TOP / 'tools'}"}
+    words = [sys.executable, "-B", "-c", asked]
+    said = subprocess.run(words, cwd=TOP, env=names, capture_output=True, text=True, timeout=60)
+    assert said.stdout == "True ([2, 2, 2, 2],) (4, 3, 16)\n", said.stderr
 
 
 WRONG = [

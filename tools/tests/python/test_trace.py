@@ -98,6 +98,17 @@ def test_slices_by_time_are_the_rows_of_that_time(street, name):
     assert len(rows) == ((whole.time_s >= 100) & (whole.time_s < 200)).sum() > 0
 
 
+def test_views_share_one_walk_over_the_text(street, monkeypatch):
+    trace = arterial.Trace(street.text)
+    views = [trace.cabinet(number) for number in (1, 2, 3, 4)]
+    assert sum(len(it.greens()) + len(it.events()) for it in views) == len(trace.greens()) + len(trace.events())
+    from arterial import walks
+
+    monkeypatch.setattr(walks, "rows_of", None)
+    monkeypatch.setattr(walks, "events_of", None)
+    assert len(trace.between(0, 60).greens()) and len(views[0].events())
+
+
 def test_greens_that_overlap_a_slice_are_in_it_uncut(car):
     assert car.between(15, 22).greens().start_s.tolist() == [6.0, 6.0, 21.5, 21.5]
     assert car.between(16, 21).greens().empty
