@@ -122,8 +122,8 @@ def parser() -> argparse.ArgumentParser:
     )
     words.add_argument(
         "--scenario", metavar="FILE",
-        help="the scenario or timing sheet to run (default: one standard cabinet, rounds of 1 s)",
-    )
+        help="the scenario or timing sheet to run; - is standard input (default: one standard cabinet, rounds of 1 s)",
+    )  # fmt: skip
     words.add_argument(
         "--cabinet", default="1", metavar="NAME",
         help="which cabinet of the scenario answers, by number or name (default: 1)",

@@ -11,7 +11,7 @@ from ..shared.commandline import Parser, add_json, add_output, add_program, numb
 from ..shared.fault import Fault
 from ..shared.given import Given, read_toml
 from ..shared.progress import bar
-from ..shared.saying import say
+from ..shared.saying import say, say_replaced
 from ..shared.status import Status
 from . import comparing, comparing_queues, verdicts
 from .comparison import Result, Row, Terms, do_all, rows_of
@@ -23,8 +23,8 @@ examples:
   ./arterial cosim compare scenarios/sumo/street/offsets.toml -o out/     # under SUMO
   ./arterial cosim compare scenarios/sumo/street/bus.toml -o out/ --workers 4 --keep
 
-All plans run over the same seeds, so that they meet the same vehicles. A difference is taken seed by seed; its
-interval of 95 % is Student's over the seeds. If the interval includes 0, the difference isn't real. The folder gets
+All plans run with the same seeds, so they have the same vehicles. Differences are computed for each seed; the interval
+of 95 % is Student's over the seeds. If it contains 0, the report says "no real difference". The folder gets
 comparison.txt and comparison.json. docs/QUEUES.md and docs/COSIM.md explain the file."""
 HEADS = ("plan", "trips", "delay", "stops", "more delay", "more stops", "delay differs")
 
@@ -70,7 +70,7 @@ def text_of(terms: Terms, rows: list[Row]) -> str:
         f"means with intervals of 95 %; more: than under {terms.against}, paired by seed",
     ]
     for group in dict.fromkeys(it.group for it in rows):
-        cells = [HEADS]
+        cells: list[tuple[str, ...]] = [HEADS]
         for it in (row for row in rows if row.group == group):
             means = (it.delay, it.stops, it.more_delay, it.more_stops)
             cells.append((it.plan, f"{it.trips:.0f}", *map(shown, means), verdicts.word(it.more_delay)))
@@ -117,6 +117,17 @@ def kind_of(given: Given) -> ModuleType:
     return comparing
 
 
+def with_walks(comparison: comparing.Comparison) -> comparing.Comparison:
+    """Returns the plans that can be compared where persons walk; says which are left out, and which step is short
+    enough for measures."""
+    found, left = comparing.without_walks(comparison)
+    for plan in left:
+        say("cosim", f"plan {plan} is left out: SUMO's controllers have no walk times, and persons walk here")
+    if found.terms.step >= 1:
+        say("cosim", "steps of 1 s lower SUMO's saturation flow: they are for looking; measure delay with step = 0.1")
+    return found
+
+
 def ran(kind: ModuleType, jobs: list[Any], workers: int) -> list[Result]:
     """Does all runs."""
     progress = bar(len(jobs), "run")
@@ -136,6 +147,8 @@ def main(given: list[str]) -> int:
     read = read_toml(words.comparison)
     kind = kind_of(read)
     comparison = kind.of(read, words.comparison.parent)
+    if kind is comparing:
+        comparison = with_walks(comparison)
     jobs = kind.jobs_of(comparison, words.program, words.output or pathlib.Path(tempfile.gettempdir()), words.keep)
     if words.output is None and kind is comparing:
         raise Fault("a comparison under SUMO needs -o FOLDER, in which SUMO writes")
@@ -144,6 +157,7 @@ def main(given: list[str]) -> int:
     text = text_of(comparison.terms, rows)
     document = json.dumps(document_of(comparison.terms, rows), indent=1) + "\n"
     if words.output is not None:
+        say_replaced("cosim", words.output / "comparison.json")
         words.output.mkdir(parents=True, exist_ok=True)
         (words.output / "comparison.txt").write_text(text, encoding="utf-8")
         (words.output / "comparison.json").write_text(document, encoding="utf-8")

@@ -3,7 +3,7 @@
 import pathlib
 import tempfile
 from concurrent.futures import ProcessPoolExecutor
-from dataclasses import dataclass
+from dataclasses import dataclass, replace
 from typing import Any
 
 from ..shared.fault import Fault
@@ -17,7 +17,7 @@ from .mapping import read_map
 from .totals import counted, totals_of
 
 CABINETS = "cabinets"
-CONTROLLERS = (CABINETS, *yardsticks.MAKERS)
+CONTROLLERS = (CABINETS, *yardsticks.MAKERS, yardsticks.STATIC)
 
 
 @dataclass(frozen=True)
@@ -74,12 +74,28 @@ def of(given: Given, folder: pathlib.Path) -> Comparison:
 
     plans = given.each("plan", plan_of)
     config, mapped = folder / given.need("sumo", str), folder / given.need("map", str)
-    return Comparison(config, mapped, plans, terms_of(given, plans, (0.1, 1)))
+    return Comparison(config, mapped, plans, terms_of(given, plans, (0.1, 1), 0.1))
 
 
 def read_comparison(path: pathlib.Path) -> Comparison:
     """Reads a comparison under SUMO."""
     return of(read_toml(path), path.parent)
+
+
+def without_walks(comparison: Comparison) -> tuple[Comparison, list[str]]:
+    """Returns a comparison without the plans of SUMO's NEMA and actuated controllers where persons walk over crossings
+    with signals, and the names of those plans: these controllers have no walk times, so a crossing would stay open all
+    green and hold the vehicles that turn."""
+    street = read_map(comparison.map)
+    walks = any(it.walk for signal in street.signals for it in signal.movements)
+    left = [it.name for it in comparison.plans if it.controller in yardsticks.MAKERS]
+    if not left or not walks or not read_config(comparison.config).has_persons():
+        return comparison, []
+    plans = tuple(it for it in comparison.plans if it.name not in left)
+    if len(plans) < 2 or comparison.terms.against in left:
+        words = "SUMO's own controllers have no walk times, and persons walk here"
+        raise Fault(f"{', '.join(left)}: {words}: compare without persons, or leave them out")
+    return replace(comparison, plans=plans), left
 
 
 def scenario_of(plan: Plan) -> dict[str, Any]:
@@ -135,7 +151,7 @@ def jobs_of(comparison: Comparison, program: str | None, out: pathlib.Path, keep
     for plan in comparison.plans:
         given = given_of(comparison, plan, None)
         run.preflight(given, path)
-        if plan.controller != CABINETS:
+        if plan.controller in yardsticks.MAKERS:
             yardsticks.programs(given, plan.controller)
     jobs = [
         Job(comparison, plan, seed, path if plan.controller == CABINETS else None, out / f"{number:02}-{seed}", keep)

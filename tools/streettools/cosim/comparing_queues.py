@@ -67,7 +67,7 @@ def of(given: Given, folder: pathlib.Path) -> Comparison:
         return Plan(name, scenario, row.numbers("offsets", 255), row.within("pattern", int, 1, 48))
 
     plans = given.each("plan", plan_of)
-    return Comparison(folder / given.need("volumes", str), plans, terms_of(given, plans, STEPS))
+    return Comparison(folder / given.need("volumes", str), plans, terms_of(given, plans, STEPS, 1))
 
 
 def street_of(plan: Plan) -> Street:

@@ -68,12 +68,12 @@ def seeds_of(given: Given) -> tuple[int, ...]:
     return seeds
 
 
-def terms_of(given: Given, plans: Sequence[Named], steps: tuple[float, ...]) -> Terms:
+def terms_of(given: Given, plans: Sequence[Named], steps: tuple[float, ...], usual: float) -> Terms:
     """Reads the terms, which go with all plans."""
     names = [it.name for it in plans]
     if len(plans) < 2 or len(set(names)) < len(names):
         raise given.refuse("plan", "is needed at least twice, each with a different name")
-    step, against = given.take("step", NUMBER, 1), given.take("against", str, names[0])
+    step, against = given.take("step", NUMBER, usual), given.take("against", str, names[0])
     if step not in steps:
         raise given.refuse("step", "has to be " + " or ".join(f"{it:g}" for it in steps))
     if against not in names:
@@ -149,19 +149,25 @@ class Row:
     more_stops: Mean | None
 
 
+def whole(found: list[Total | None]) -> list[Total] | None:
+    """Returns a list without gaps; None if it has one."""
+    kept = [it for it in found if it is not None]
+    return kept if len(kept) == len(found) else None
+
+
 def rows_of(terms: Terms, plans: Sequence[Named], jobs: Sequence[Job], results: list[Result]) -> list[Row]:
     """Returns the table of a comparison: plans paired by seed, group by group."""
     totals = {(job.plan.name, job.seed): result.totals for job, result in zip(jobs, results)}
     groups = list(dict.fromkeys(group for result in results for group in result.totals))
     rows = []
     for group in groups:
-        base = [totals[terms.against, seed].get(group) for seed in terms.seeds]
+        base = whole([totals[terms.against, seed].get(group) for seed in terms.seeds])
         for plan in plans:
-            own = [it for seed in terms.seeds if (it := totals[plan.name, seed].get(group)) is not None]
-            if len(own) < len(terms.seeds):
+            own = whole([totals[plan.name, seed].get(group) for seed in terms.seeds])
+            if own is None:
                 continue
-            is_base = plan.name == terms.against or None in base
-            pairs = [(one, other) for one, other in zip(own, base) if other is not None]
+            is_base = plan.name == terms.against or base is None
+            pairs = list(zip(own, base or ()))
             rows.append(
                 Row(
                     plan.name,

@@ -17,6 +17,7 @@ from ..shared.status import Status
 from ..street.record import Room
 from .checks import yielding_in
 from .detectors import Areas, Detectors
+from .discharge import Crossings
 from .drive import Config, call
 from .halts import Halts
 from .mapping import Map
@@ -103,7 +104,8 @@ class Loop:
         names = [it.id for it in street.signals]
         self.signals = Signals(street, network)
         self.halts = Halts(network, names, sumo, (it.lane for it in areas.places.values()))
-        self.watch = Watch(network, names, yielding_in(street, given.scenario), sumo)
+        self.crossings = Crossings(network, names, sumo)
+        self.watch = Watch(network, names, yielding_in(street, network, given.scenario), sumo)
         self.detectors = Detectors(street, areas, sumo, given.step)
         self.buttons = Buttons(street, network, sumo)
         self.priority = Priority(street, network, given.scenario.get("community", "public"))
@@ -155,6 +157,7 @@ class Loop:
         """Returns what the cabinets are told before the ticks; slow things are looked at once a second."""
         if is_whole:
             self.halts.look(self.second)
+            self.crossings.look()
             self.detectors.look_for_strays(self.halts.standing)
         requests = self.detectors.changes()
         if self.watched.names:

@@ -19,10 +19,9 @@ Value = dict[str, Any]
 
 @dataclass(frozen=True)
 class More:
-    """What a study doesn't have: the names of cabinets, and volume divided by capacity of movements."""
+    """What a study doesn't have: the names of cabinets."""
 
     names: Mapping[int, str] = field(default_factory=dict)
-    ratios: Mapping[tuple[int, str], float] = field(default_factory=dict)
 
 
 def greens_in(study: Study) -> Greens:
@@ -64,6 +63,8 @@ def value_of(count: Count) -> Value:
         "stops": share(count.stops, count.vehicles, 2),
         "on_green": on_green,
         "green": green,
+        "v_c": None if count.capacity is None else share(count.arrivals, count.capacity, 2),
+        "full": None if count.full_time is None else share(count.full_time, count.time),
         "platoon_ratio": round(on_green / green, 2) if on_green is not None and green else None,
         "queue_mean": share(count.queued, count.queue_time, 2),
         "queue_greatest": count.queue_greatest,
@@ -98,14 +99,12 @@ def collect(study: Study, greens: Greens | None = None, more: More | None = None
     moved, walked = [], []
     for it in study.movements:
         count = found[it.cabinet, it.name]
-        named = {"cabinet": it.cabinet, "movement": it.name, "phase": it.phase}
+        named: Value = {"cabinet": it.cabinet, "movement": it.name, "phase": it.phase}
         if is_of_persons(it):
             walked.append({**named, "persons": count.vehicles, "delay": share(count.delay, count.vehicles, 1)})
         else:
             cabinets[it.cabinet].add(count)
             moved.append(named | value_of(count))
-            if more.ratios:
-                moved[-1]["v_c"] = more.ratios.get((it.cabinet, it.name))
     return {
         "title": study.title,
         "seconds": study.seconds,
@@ -117,6 +116,7 @@ def collect(study: Study, greens: Greens | None = None, more: More | None = None
         ],
         "movements": moved,
         "crossings": walked,
+        "lanes": [it._asdict() for it in study.lanes],
         "routes": [
             {"kind": str(kind), "route": name} | route_value(it)
             for (kind, name), it in sorted(routes(study).items(), key=lambda it: (-it[1].trips, it[0]))
@@ -133,8 +133,9 @@ COLUMNS = {
     "stops": "stops",
     "on_green": "on green",
     "green": "green",
-    "v_c": "v/c",
     "platoon_ratio": "ratio",
+    "v_c": "v/c",
+    "full": "full",
     "queue_mean": "queue",
     "queue_greatest": "greatest",
     "left": "left",
@@ -145,8 +146,9 @@ COLUMNS = {
 OF_CABINET = ("vehicles", "delay", "delay_95", "level", "stops", "on_green", "left", "split_failures")
 """The columns that a whole cabinet has: its movements have no green and no queue in common."""
 ROUTES = {"trips": "trips", "arrived": "arrived", "travel": "travel", "delay": "delay", "stops": "stops"}
-PLACED = ("cabinets", "movements", "crossings")
+PLACED = ("cabinets", "movements", "crossings", "lanes")
 """The tables whose rows are at a cabinet."""
+LANES = {name: name for name in ("cabinet", "lane", "greens", "vehicles", "saturation", "lost")}
 SHOWN = 12
 """So many routes are shown, those with the most trips first."""
 
@@ -187,11 +189,15 @@ def text(value: Value) -> str:
     parts = [f"{head}{value['seconds']:g} s{counted}; times in seconds\n"]
     parts.append(table(value["kinds"], {"kind": "who"} | ROUTES))
     parts.append(table(value["cabinets"], {"cabinet": "cabinet"} | {name: COLUMNS[name] for name in OF_CABINET}))
-    columns = {name: head for name, head in COLUMNS.items() if all(name in it for it in value["movements"])}
-    parts.append(table(value["movements"], {"cabinet": "cabinet", "movement": "movement", "phase": "phase"} | columns))
+    rows = value["movements"]
+    shown = [it for it in COLUMNS if it not in ("v_c", "full") or any(row[it] is not None for row in rows)]
+    heads = {"cabinet": "cabinet", "movement": "movement", "phase": "phase"} | {name: COLUMNS[name] for name in shown}
+    parts.append(table(rows, heads))
     if value["crossings"]:
         heads = {"cabinet": "cabinet", "movement": "crossing", "persons": "persons", "delay": "delay"}
         parts.append(table(value["crossings"], heads))
+    if value["lanes"]:
+        parts.append(table(value["lanes"], LANES))
     rows = value["routes"]
     if rows:
         parts.append(table(rows[:SHOWN], {"route": "route", "kind": "who"} | ROUTES))

@@ -7,7 +7,7 @@ import json
 import re
 import sys
 from collections.abc import Iterator
-from typing import BinaryIO, NamedTuple
+from typing import IO, NamedTuple
 
 from streettools.shared.saying import say
 from streettools.shared.status import Status
@@ -72,7 +72,7 @@ def of_times(asked: Asked, phase: int, tables: Tables) -> Iterator[str]:
         yield f"these times fit all parents: --trail {trail} --yellow {change} --red {after}"
 
 
-def lines(said: str, words: list[str], trace: BinaryIO) -> Iterator[str]:
+def lines(said: str, words: list[str], trace: IO[bytes]) -> Iterator[str]:
     """Yields the lines that explain the program's line."""
     found = LINE.search(said)
     if not found:
@@ -93,7 +93,7 @@ def lines(said: str, words: list[str], trace: BinaryIO) -> Iterator[str]:
         yield from (of_parent if rule == 2 else of_times)(asked, row, tables)
 
 
-def show(said: str, words: list[str], trace: BinaryIO) -> None:
+def show(said: str, words: list[str], trace: IO[bytes]) -> None:
     """Writes these lines to standard error; nothing if the text isn't what it was when the program read it."""
     try:
         for line in lines(said, words, trace):

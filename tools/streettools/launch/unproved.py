@@ -5,13 +5,14 @@ Such a run has limits of the kit: 64 MiB of input, 1 MiB of output, a minute of 
 none.
 """
 
+import io
 import os
 import re
 import signal
 import subprocess
 import sys
 import tempfile
-from typing import BinaryIO
+from typing import IO, cast
 
 from streettools import words
 from streettools.shared.progress import waiting
@@ -51,7 +52,7 @@ class Unfinished(Exception):
         self.status = status
 
 
-def given(stream: BinaryIO, to: BinaryIO) -> None:
+def given(stream: io.BufferedReader, to: IO[bytes]) -> None:
     """Copies standard input to a file, to its end: the kit itself does not wait for it."""
     size = 0
     while part := stream.read1(1 << 20):
@@ -62,7 +63,7 @@ def given(stream: BinaryIO, to: BinaryIO) -> None:
     to.seek(0)
 
 
-def ran(rt: str, arguments: list[str], stdin: BinaryIO, stdout: BinaryIO) -> tuple[int, bytes]:
+def ran(rt: str, arguments: list[str], stdin: IO[bytes], stdout: IO[bytes]) -> tuple[int, bytes]:
     """Runs the program and returns its exit status and what it wrote to standard error; its output goes to a file."""
     command = [rt, "try", "--seconds", str(SECONDS), "--", *arguments]
     folder = crates.TOP / "crates" / crates.PROGRAM
@@ -74,9 +75,9 @@ def ran(rt: str, arguments: list[str], stdin: BinaryIO, stdout: BinaryIO) -> tup
         except BaseException:
             tool.send_signal(signal.SIGTERM)
             raise
-    ended = ENDED.search(said)
-    if ended and int(ended[1]) == tool.returncode:
-        return tool.returncode, said[: OWN.search(said).start()]
+    ended, own = ENDED.search(said), OWN.search(said)
+    if ended and own and int(ended[1]) == tool.returncode:
+        return tool.returncode, said[: own.start()]
     raise Unfinished(*why_not(said))
 
 
@@ -97,7 +98,7 @@ def answer(rt: str, arguments: list[str]) -> int:
     """Prints the program's answer, and returns its status."""
     with tempfile.TemporaryFile() as stdin, tempfile.TemporaryFile() as stdout:
         if arguments[0] in READERS:
-            given(sys.stdin.buffer, stdin)
+            given(cast(io.BufferedReader, sys.stdin.buffer), stdin)
         status, said = ran(rt, arguments, stdin, stdout)
         stdout.seek(0)
         sys.stderr.buffer.write(said)

@@ -19,8 +19,9 @@ def questions(street: Street) -> Iterator[tuple[int, int, list[int], list[int]]]
     cabinets = street.scenario["cabinets"]
     for section in range(1, 9):
         numbers = [number for number, it in enumerate(cabinets, 1) if it.get("section", 1) == section]
-        travel = [street.names.intersection(number).travel for number in numbers[:-1]]
-        if len(numbers) < 2 or any(it is None for it in travel):
+        told = [street.names.intersection(number).travel for number in numbers[:-1]]
+        travel = [it for it in told if it is not None]
+        if len(numbers) < 2 or len(travel) < len(told):
             continue
         tables = [tables_of(cabinets[number - 1]) for number in numbers]
         for pattern in sorted(set.intersection(*(set(it.patterns()) for it in tables))):

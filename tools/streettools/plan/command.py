@@ -119,7 +119,7 @@ def add_products(parts) -> None:
         "--round", type=number(1, 86_400), default=1, help="the round in which they are sent (default: 1)"
     )
     when.add_argument(
-        "--at", type=lambda text: round(10 * daytime(text)), metavar="TIME",
+        "--at", type=daytime, metavar="TIME",
         help="the time of day at which they are sent, as 07:15:00",
     )
     part.add_argument(

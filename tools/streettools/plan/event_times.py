@@ -4,9 +4,8 @@ numbers."""
 from typing import Any
 
 from ..shared import clock
-from . import given
-from .fields import Wrong
-from .given import Given
+from ..shared.given import Given, Wrong
+from . import readers
 
 
 class Timed:
@@ -38,7 +37,7 @@ class Timed:
         if "at" in made:
             if "round" in made:
                 raise Wrong("it has at and round: write one of them")
-            made = {"round": self.round(given.day_ticks(made.pop("at")))} | made
+            made = {"round": self.round(readers.day_ticks(made.pop("at")))} | made
         return made
 
     def number(self, name: str) -> int:

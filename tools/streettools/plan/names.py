@@ -10,7 +10,8 @@ from dataclasses import dataclass, field, replace
 from typing import Any
 
 from ..shared.fault import Fault
-from .fields import Wrong, is_number, one_line
+from ..shared.given import Wrong
+from .fields import is_number, one_line
 
 KINDS = ("vehicle", "pedestrian")
 """What a phase may serve."""
@@ -114,7 +115,7 @@ def text(names: Names) -> str:
 def of_intersection(given: dict[str, Any]) -> Intersection:
     """Returns an intersection as a names file has it."""
     phases = {int(number): Phase(**it) for number, it in given.get("phases", {}).items()}
-    numbered = {
+    numbered: dict[str, Any] = {
         name: {int(number): it for number, it in given.get(name, {}).items()} for name in ("preempts", "detectors")
     }
     rest = {name: it for name, it in given.items() if name not in ("phases", "preempts", "detectors")}

@@ -4,6 +4,7 @@ import json
 import pathlib
 from typing import NamedTuple
 
+from ..shared.given import content_of
 from . import names, taking
 from .names import Names
 from .suffixes import is_sheet
@@ -24,4 +25,4 @@ def text_of(path: str) -> Text:
     file = pathlib.Path(path)
     beside = names.beside(file)
     known = names.read(beside.read_text(encoding="utf-8")) if beside.is_file() else None
-    return Text(file.read_bytes(), known)
+    return Text(content_of(path), known)

@@ -128,6 +128,13 @@ def day_text(seconds: float) -> str:
     return f"{whole // 3600:02d}:{whole // 60 % 60:02d}:{whole % 60:02d}" + (f".{rest}" if rest else "")
 
 
+def hours_text(seconds: float) -> str:
+    """Returns a time by its seconds from midnight, 24:00 and later too, as hours and minutes, with whole seconds if
+    there are any."""
+    whole = int(seconds)
+    return f"{whole // 3600}:{whole // 60 % 60:02d}" + (f":{whole % 60:02d}" if whole % 60 else "")
+
+
 def looks_like_a_clock(second: int) -> bool:
     """Tells whether a number of seconds reads as hours and minutes, as 630."""
     return 100 <= second < 2400 and second % 100 < 60

@@ -21,6 +21,8 @@ HERE = os.path.dirname(os.path.dirname(os.path.dirname(os.path.realpath(__file__
 it."""
 OWN, FINDER = os.path.join(HERE, "arterial"), os.path.join(HERE, "proved")
 """The program of an installation, and the script that finds the one of a checkout."""
+CARRIED = os.path.join(HERE, "arterial", "data", "program", "arterial")
+"""The program inside the Python package, where a wheel carries one."""
 TRIED = os.path.join(HERE, "tried")
 """The script that finds the unproved program of a checkout."""
 MODEL = os.path.join(os.path.dirname(HERE), "model", "program")
@@ -120,6 +122,8 @@ def usual() -> str:
     """Returns the path of the program where nothing names it."""
     if os.path.isfile(OWN):
         return OWN
+    if os.path.isfile(CARRIED):
+        return CARRIED
     if os.path.isfile(FINDER):
         import subprocess
 

@@ -20,6 +20,17 @@ Heard = Callable[[bytes | None, Answer], None]
 """Is told each request with its answer; None stands for the scenario and for the end of input."""
 
 
+def frame(cabinet: int, octets: bytes, stream: str = "priority") -> bytes:
+    """Returns the request by which a cabinet gets a message."""
+    return b"frame %d %b %b" % (cabinet, stream.encode(), octets.hex().encode())
+
+
+def reply_in(lines: Answer) -> bytes | None:
+    """Returns the reply in the answer to such a request, None where the cabinet is silent."""
+    digits = lines[-1].rsplit(b" ", 1)[1]
+    return None if lines[-1][:1] == b"?" or digits == b"-" else bytes.fromhex(digits.decode())
+
+
 class Asked(NamedTuple):
     """A line that was given: the request in it, and its answer to come."""
 

@@ -6,7 +6,7 @@ record is full.
 
 import asyncio
 import contextlib
-from collections.abc import Awaitable, Iterator
+from collections.abc import AsyncIterator, Awaitable, Iterator
 from typing import Any
 
 from ..shared.fault import Fault
@@ -14,13 +14,19 @@ from ..shared.program import Died
 from ..shared.session import Answer
 from ..shared.status import Status
 from .inputs import Inputs
+from .known import Clocks, Downloads
 from .pace import Pace
-from .session import Over, Session
+from .session import Over, Session, frame, reply_in
 
 LONGEST = 1472
 """The octets of the longest message that a cabinet may be given."""
 MOST_ROUNDS, MOST_TICKS = 86_400, 55_296_000
 """The limits of a scenario: rounds; ticks of all cabinets together."""
+
+
+Manager = tuple[str, int]
+"""Where a manager's datagram came from: its address and port."""
+NOBODY: Manager = ("", 0)
 
 
 def rounds_for(scenario: dict[str, Any]) -> int:
@@ -67,12 +73,12 @@ class Street:
         """The names of intersections, by their numbers."""
         self.after_message = 0
         """How many ticks go by after each datagram."""
-        self.stops_at_end = False
+        self.stops_at_end = self.is_replaying = False
         self.order = asyncio.Lock()
         self.session: Session
         self.closed: Session | None = None
         self.fault: Exception | None = None
-        self.inputs = Inputs()
+        self.inputs, self.downloads, self.clocks = Inputs(), Downloads(), Clocks()
         self.ended = asyncio.Event()
         self.woken = asyncio.Event()
         self.renewals = 0
@@ -80,6 +86,8 @@ class Street:
     async def open(self) -> None:
         """Begins a session."""
         self.inputs.began(self.scenario)
+        self.downloads.began(self.scenario)
+        self.clocks.began(self.scenario)
         for hearer in self.hearers:
             with failing(hearer):
                 hearer.began(self.scenario)
@@ -100,6 +108,8 @@ class Street:
     def heard(self, request: bytes | None, answer: Answer) -> None:
         """Lets all hear of an answer; a fault of one of them names it."""
         self.inputs.heard(request, answer)
+        self.downloads.heard(request, answer)
+        self.clocks.heard(request, answer)
         for hearer in self.hearers:
             with failing(hearer):
                 hearer.heard(request, answer)
@@ -109,22 +119,38 @@ class Street:
         if len(octets) > LONGEST:
             return None
         try:
-            lines = await self.session.ask(b"frame %d %b %b" % (cabinet, stream.encode(), octets.hex().encode()))
+            return reply_in(await self.session.ask(frame(cabinet, octets, stream)))
         except Over:
             return None
-        digits = lines[-1].rsplit(b" ", 1)[1]
-        return None if lines[-1][:1] == b"?" or digits == b"-" else bytes.fromhex(digits.decode())
 
-    async def datagram(self, cabinet: int, octets: bytes) -> bytes | None:
+    async def messages(self, cabinet: int, several: list[bytes]) -> list[bytes | None]:
+        """Returns a cabinet's replies to messages, between which nothing else comes to it."""
+        try:
+            under_way = [self.session.send(it, it) for it in (frame(cabinet, octets) for octets in several)]
+            return [reply_in(answer) for answer in await asyncio.gather(*under_way)]
+        except Over:
+            return [None] * len(several)
+
+    async def datagram(self, cabinet: int, octets: bytes, manager: Manager = NOBODY) -> bytes | None:
         """Returns a cabinet's reply to a datagram, which comes behind the ticks that are due. Where time goes on by
         messages it does so behind the reply, and the next message waits."""
         if not self.after_message:
             self.session.send_all_ticks(self.pace.due())
             return await self.message(cabinet, octets)
+        async with self.turn():
+            return await self.message(cabinet, octets)
+
+    @contextlib.asynccontextmanager
+    async def turn(self) -> AsyncIterator[None]:
+        """The turn of one datagram, whatever is asked of the cabinets for it: behind the ticks that are due; those
+        that a message takes go by at its end."""
+        if not self.after_message:
+            self.session.send_all_ticks(self.pace.due())
+            yield
+            return
         async with self.order:
-            reply = await self.message(cabinet, octets)
+            yield
             await self.session.take(self.after_message)
-            return reply
 
     async def input(self, request: bytes) -> bool:
         """Tells a cabinet of an input from the street; returns whether that was taken."""

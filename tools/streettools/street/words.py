@@ -66,7 +66,8 @@ def parser() -> argparse.ArgumentParser:
     words = Parser("street", description=ABOUT, epilog=AFTER)
     words.add_argument(
         "--scenario", metavar="FILE",
-        help="the scenario of the street, or its timing sheet (default: one standard cabinet, rounds of 1 s)",
+        help="the scenario of the street, or its timing sheet; - is standard input (default: one standard cabinet, "
+        "rounds of 1 s)",
     )
     words.add_argument(
         "--ports",
@@ -117,6 +118,13 @@ def parser() -> argparse.ArgumentParser:
         help="replay at once the record of an earlier street (without FILE: that of --record); then the street "
         "continues",
     )
+    words.add_argument(
+        "--line", metavar="FILE", help="a bad line between managers and cabinets, described in TOML (docs/STREET.md)"
+    )
+    words.add_argument(
+        "--messages", metavar="FILE",
+        help="write every message to this file: lines of JSON, or a capture if its name ends in .pcap",
+    )  # fmt: skip
     words.add_argument(
         "--as", dest="front", choices=["ntcip1202"],
         help="answer more than the proved profile does (docs/SNMP-CONFORMANCE.md)",

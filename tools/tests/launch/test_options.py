@@ -81,6 +81,13 @@ def test_a_hyphen_is_standard_input(monkeypatch, capsys):
         assert ended(["look", "report", "--no-check", "-"], capsys) == report
 
 
+@pytest.mark.parametrize("tool", ["street", "cabinet"])
+def test_a_hyphen_is_standard_input_for_a_scenario(tool, monkeypatch, capsys):
+    monkeypatch.setenv("ARTERIAL_PROGRAM", str(TOP / "model/program"))
+    monkeypatch.setattr(sys, "stdin", io.TextIOWrapper(io.BytesIO(b"nonsense")))
+    assert ended([tool, "--scenario", "-"], capsys) == (2, "", f"{tool}: scenario: not JSON\n")
+
+
 TIMES = [("90", 900), ("90.5", 905), ("0", 0), ("900t", 900), ("1:30", 900), ("1:30.5", 905), ("1:01:30", 36_900)]
 
 

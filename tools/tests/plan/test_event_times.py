@@ -5,7 +5,7 @@ import tomllib
 import pytest
 
 from streettools.plan import reading
-from streettools.plan.given import Unreadable
+from streettools.shared.given import Unreadable
 
 HEAD = """
 [run]

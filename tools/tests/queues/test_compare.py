@@ -1,17 +1,14 @@
 """Plans compared by volumes and queues: the same vehicles under each, differences seed by seed, and what they mean."""
 
 import json
-from types import SimpleNamespace
 
 import pytest
 
 from streettools import words
 from streettools.cosim import verdicts
 from streettools.cosim.comparison import Row, Terms
-from streettools.cosim.queues import capacity
 from streettools.cosim.totals import Mean, mean_of
 
-from .conftest import FixedTime, Saturation, Volumes, flow, ran
 from .test_command import called, folder
 
 __all__ = ["folder"]
@@ -92,20 +89,3 @@ def test_what_is_wrong_with_a_comparison_is_one_line_before_anything_runs(folder
     said = capsys.readouterr()
     assert status in (1, 2) and said.out == ""
     assert line in said.err and said.err.count("\n") == 1, said.err
-
-
-@pytest.mark.parametrize(
-    ("lanes", "saturation", "greens"),
-    [(1, Saturation(), 30.0), (2, Saturation(1800, 2, 2), 30.0), (1, Saturation(1600, 3, 1), 28.0)],
-)
-def test_the_ratio_is_volume_over_the_capacity_of_the_greens(lanes, saturation, greens):
-    """30 s of green in each 60 s, less the lost time and with the yellow that is used: 60 such greens in an hour."""
-    movement = flow(300.0 * lanes, lanes=lanes, saturation=saturation)
-    street, signals = ran([movement], FixedTime(60, 30), 3600)
-    came = len(street.demand.vehicles)
-    asked = SimpleNamespace(warm=0.0)
-    found = capacity.ratios(SimpleNamespace(
-        asked=asked, street=street, signals=signals, demand=street.demand, volumes=Volumes("", (movement,))
-    ))  # fmt: skip
-    # the first green is already there at 0: it has no loss at its begin, of which nothing is seen in a run of an hour
-    assert found == {(1, "EBT"): pytest.approx(came / (greens / 60 * saturation.flow * lanes), abs=0.011)}

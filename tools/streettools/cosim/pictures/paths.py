@@ -58,7 +58,7 @@ def draw(study: Study, cabinets: list[int], travel: list[int], view: View, path:
     if len(travel) != len(cabinets) - 1:
         raise Fault(f"{len(cabinets)} cabinets have {len(cabinets) - 1} times of travel between them")
     corners = corners_of(study, cabinets, travel, view)
-    heights = list(accumulate(travel, initial=0)) if travel and min(travel) else list(range(len(cabinets)))
+    heights = list(accumulate(travel, initial=0)) if all(travel) else list(range(len(cabinets)))
     spacing = min(high - low for low, high in zip(heights, heights[1:])) if len(heights) > 1 else 1
     title = "Coordinated greens, bands, and the paths of vehicles: above each line outbound, below it inbound"
     labels = [it.name() for it in corners]

@@ -44,7 +44,8 @@ def scenario_of(trace: pathlib.Path) -> dict[str, Any]:
 
 def turns(trace: pathlib.Path, cabinet: int, phases: tuple[int, ...]) -> list[Turn]:
     """Returns what a movement saw over a run: the best of what its phases showed."""
-    begin, found = b"F %d " % cabinet, []
+    begin = b"F %d " % cabinet
+    found: list[Turn] = []
     with open(trace, "rb") as lines:
         for line in lines:
             if line.startswith(begin):
@@ -68,14 +69,16 @@ class Cycle(NamedTuple):
 def cycles(seen: list[Turn]) -> list[Cycle]:
     """Returns the whole cycles of a movement: from the begin of one red to that of the next."""
     found = []
-    red = green = yellow = None
+    red: float | None = None
+    green: float | None = None
+    yellow: float | None = None
     for second, letter in seen:
         if letter == "G":
             green = second
         elif letter == "Y":
             yellow = second
         elif letter == "C" or yellow is not None or red is None:
-            if None not in (red, green, yellow):
+            if red is not None and green is not None and yellow is not None:
                 found.append(Cycle(red, green, yellow, second))
             red, green, yellow = second, None, None
     return found

@@ -6,7 +6,6 @@ from typing import TYPE_CHECKING
 from ...shared.fault import Fault
 from ...shared.status import Status
 from .. import records, report
-from . import capacity
 from .given import Street
 from .study import Ran, Study
 
@@ -18,7 +17,7 @@ TRACE, NAMES = "session.trace", "session.names.json"
 
 def value_of(ran: Ran, study: Study, street: Street) -> report.Value:
     """Returns the report of a run."""
-    return report.collect(study, ran.signals.greens, report.More(called_in(street.names), capacity.ratios(ran)))
+    return report.collect(study, ran.signals.greens, report.More(called_in(street.names)))
 
 
 def called_in(names: "Names | None") -> dict[int, str]:

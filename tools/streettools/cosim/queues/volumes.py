@@ -61,9 +61,23 @@ class Onward:
 
 
 @dataclass(frozen=True)
+class Yielding:
+    """How a movement turns that gives way: to which movements of its cabinet (none: by their names), the critical gap
+    and the follow-up time in seconds (None: those of the Highway Capacity Manual), how many complete their turn after
+    the green, and whether it turns on red."""
+
+    to: tuple[str, ...] = ()
+    critical: float | None = None
+    follow: float | None = None
+    sneakers: int = 2
+    on_red: bool = False
+
+
+@dataclass(frozen=True)
 class Flow:
     """A movement of an approach: its phase, its volume, its lanes, what sees it, where it goes on. `permitted` are
-    phases in which it may turn after it yields; they are kept for UTDF, and not simulated."""
+    phases in which it may turn after it yields. `storage` is how many vehicles fit between the stop lines before and
+    this one, None where there is no limit."""
 
     cabinet: int
     name: str
@@ -77,6 +91,8 @@ class Flow:
     onward: Onward | None = None
     profile: str | None = None
     permitted: tuple[int, ...] = ()
+    yielding: Yielding = field(default_factory=Yielding)
+    storage: int | None = None
 
 
 @dataclass(frozen=True)
@@ -179,6 +195,17 @@ def onward_of(given: Given, dispersion: float) -> Onward | None:
     return Onward(int(number), approach, float(travel or 0), float(share), dispersion)
 
 
+def yielding_of(given: Given) -> Yielding:
+    """Reads how a movement turns that gives way."""
+    return Yielding(
+        given.texts("yields_to"),
+        given.within("critical_gap", NUMBER, 0.5, 30),
+        given.within("follow_up", NUMBER, 0.5, 30),
+        given.within("sneakers", int, 0, 10, 2),
+        given.take("on_red", bool, False),
+    )
+
+
 def flow_of(given: Given, cabinet: int, around: Usual) -> Flow:
     """Reads a movement."""
     name = given.need("name", str)
@@ -201,6 +228,8 @@ def flow_of(given: Given, cabinet: int, around: Usual) -> Flow:
         onward_of(given, usual.dispersion),
         usual.profile,
         tuple(given.numbers("permitted", 16)),
+        yielding_of(given),
+        given.within("storage", int, 1, 10_000),
     )
     given.end()
     return found

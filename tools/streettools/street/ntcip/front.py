@@ -2,15 +2,26 @@
 
 import asyncio
 import bisect
+import contextlib
+import functools
 
-from ...shared.ber import COUNTER, END_OF_VIEW, GAUGE, INTEGER, NO_SUCH_INSTANCE, Arcs, Field, number_of, unsigned_of
+from ...shared.ber import (
+    COUNTER, END_OF_VIEW, GAUGE, INTEGER, NO_SUCH_INSTANCE, NO_SUCH_OBJECT, Arcs, Field, number_of, unsigned_of,
+)  # fmt: skip
 from ...shared.oids import CLOCK, GLOBAL_TIME, PREEMPT_STATE, TRANSACTION, VEH_CALL
 from ...shared.snmp import BULK, GET, GET_NEXT, V1, Binding, Message
-from ..street import Street
-from .objects import DAY, OBJECTS, ORDER, WRITABLE, Front, is_cell
-from .pdus import BAD_VALUE, GEN_ERR, MOST_OCTETS, NO_SUCH_NAME, Fault, asked_of, reply, whole
-from .side import Side, Silent
-from .transaction import GATHERING, Transaction
+from ..known import DAY
+from ..street import LONGEST, NOBODY, Manager, Street
+from .judging import has_type, is_of_a_table, of_the_cabinet
+from .managers import Copies, Managers
+from .objects import OBJECTS, ORDER, TYPES, WRITABLE, Front
+from .order import InOrder
+from .pdus import (
+    GEN_ERR, MOST_OCTETS, NO_SUCH_NAME, NOT_WRITABLE, WRONG_TYPE, WRONG_VALUE, Fault, asked_of, cut_reply, reply,
+    response, whole,
+)  # fmt: skip
+from .side import Silent
+from .transaction import GATHERING
 
 MOST_BINDS = 32
 """The most bindings that a cabinet takes in a message."""
@@ -20,38 +31,52 @@ STATES = (b"off", b"on")
 WHOLE_TIME = (INTEGER, COUNTER, GAUGE)
 """As what the time may be set: globalTime is a Counter, which net-snmp sends as a Gauge."""
 
+Parted = list[tuple[int, Binding]]
+"""Bindings, each with its index in the message."""
+
 
 class Cabinet:
     """A cabinet behind the front."""
 
-    def __init__(self, street: Street, cabinet: int) -> None:
+    def __init__(self, street: Street, cabinet: int, before: "Cabinet | None" = None) -> None:
+        """Opens the front of a cabinet; in the place of that of the session before, whose tables are lost."""
         self.street = street
         self.number = cabinet
-        self.front = Front(street, Side(street, cabinet), cabinet)
-        self.transaction = Transaction(self.front)
+        self.managers: Managers = before.managers if before else Managers()
+        self.managers.begins_anew()
+        self.copies: Copies = before.copies if before else Copies()
+        self.copies.begins_anew((GEN_ERR, 1))
+        self.front = Front(street, cabinet, self.managers)
+        self.transaction = self.front.transaction
         self.order = asyncio.Lock()
+        self.in_order = InOrder()
 
-    async def answer(self, octets: bytes) -> bytes | None:
+    async def answer(self, octets: bytes, manager: Manager) -> bytes | None:
         """Returns the reply to a datagram. What is no message, or is the cabinet's own matter, the cabinet answers."""
-        asked = asked_of(octets)
+        asked = asked_of(octets) if len(octets) <= LONGEST else None
         if asked is None or self.is_of_the_cabinet(asked):
-            return await self.street.datagram(self.number, octets)
-        if asked.community != self.street.community():
-            return None
-        async with self.order:
-            try:
-                return await self.carried_out(asked)
-            except Silent:
+            passed_on = functools.partial(self.street.datagram, self.number, octets)
+            return await self.in_order.done(manager, False, passed_on)
+        return await self.in_order.done(manager, True, functools.partial(self.answer_here, asked, octets, manager))
+
+    async def answer_here(self, asked: Message, octets: bytes, manager: Manager) -> bytes | None:
+        """Returns the reply to a message that is carried out here, None to one of another community."""
+        async with self.street.turn():
+            if asked.community != self.street.community():
                 return None
+            with contextlib.suppress(Silent):
+                async with self.order:
+                    return await self.carried_out(asked, octets, manager)
+        return None
 
     def is_of_the_cabinet(self, asked: Message) -> bool:
         """Tells whether a message is one of version 1 that names nothing of the front's."""
         if asked.version != V1 or asked.kind == GET_NEXT:
             return False
-        gathers = self.front.state == GATHERING
-        return not any(it.arcs in OBJECTS or gathers and is_cell(it.arcs) for it in asked.bindings)
+        gathers = self.transaction.state == GATHERING
+        return not any(it.arcs in OBJECTS or gathers and is_of_a_table(it.arcs) for it in asked.bindings)
 
-    async def carried_out(self, asked: Message) -> bytes:
+    async def carried_out(self, asked: Message, octets: bytes, manager: Manager) -> bytes:
         """Returns the reply to a message that is carried out here."""
         try:
             if asked.kind == GET:
@@ -60,10 +85,12 @@ class Cabinet:
                 return reply(asked, await self.got_next(asked, asked.bindings))
             if asked.kind == BULK:
                 return await self.got_bulk(asked)
-            await self.put(asked)
-            return reply(asked, asked.bindings)
+            status, index = await self.put_once(asked, octets, manager)
+            return reply(asked, asked.bindings, status, index)
         except Fault as fault:
             return reply(asked, asked.bindings, fault.status, fault.index)
+
+    # what is read
 
     async def got(self, asked: Message) -> list[Binding]:
         """Returns the values of objects; in version 1 one that there is none of is a fault, later it is said in its
@@ -77,7 +104,7 @@ class Cabinet:
         missing = next((at for at, name in enumerate(names, 1) if found[name] is None), None)
         if missing and asked.version == V1:
             raise Fault(NO_SUCH_NAME, missing)
-        return [Binding(name, found[name] or Field(NO_SUCH_INSTANCE, b"")) for name in names]
+        return [Binding(name, found[name] or absent(name)) for name in names]
 
     async def following(self, name: Arcs) -> Binding | None:
         """Returns the first object behind a name, of the front or of the cabinet; None behind the last."""
@@ -99,84 +126,97 @@ class Cabinet:
         return found
 
     async def got_bulk(self, asked: Message) -> bytes:
-        """Returns the reply to a GetBulk, as long as a message may be."""
+        """Returns the reply to a GetBulk, which is cut where a message can't be longer."""
         single = max(0, asked.first)
         found = await self.got_next(asked, asked.bindings[:single])
         row = asked.bindings[single:]
         for _ in range(min(max(0, asked.second), MOST_REPEATED) if row else 0):
             row = await self.got_next(asked, row)
-            if len(reply(asked, found + row)) >= MOST_OCTETS - 60 and found:
-                break
             found = found + row
-            if all(it.value.tag == END_OF_VIEW for it in row):
+            if len(response(asked, found)) >= MOST_OCTETS or all(it.value.tag == END_OF_VIEW for it in row):
                 break
-        return reply(asked, found)
+        return cut_reply(asked, found)
 
     # what is set
 
-    async def put(self, asked: Message) -> None:
+    async def put_once(self, asked: Message, octets: bytes, manager: Manager) -> tuple[int, int]:
+        """Sets objects, and returns status and index. A copy of a Set of the transaction that was answered gets the
+        same answer, and does nothing."""
+        is_of_transaction = any(it.arcs == TRANSACTION or is_of_a_table(it.arcs) for it in asked.bindings)
+        if is_of_transaction and (known := self.copies.answered(manager, asked.number, octets)):
+            return known
+        try:
+            await self.put(asked, manager)
+            answered = (0, 0)
+        except Fault as fault:
+            answered = (fault.status, fault.index)
+        if is_of_transaction:
+            self.copies.keep(manager, asked.number, octets, answered)
+        return answered
+
+    async def put(self, asked: Message, manager: Manager) -> None:
         """Sets objects: those of the cabinet in one message of its own, then those of the front. A fault is raised
         before anything of the front's is done."""
+        cells, others, own = self.parted(asked)
+        for at, it in own:
+            self.test(at, it, len(asked.bindings))
+        self.transaction.test(cells, manager, asked.number)
+        await self.put_others(asked, others)
+        self.transaction.gather(cells, manager)
+        for at, it in own:
+            if it.arcs == TRANSACTION:
+                await self.transaction.go_to(value_of(it.value), manager, asked.number)
+            else:
+                await self.do(at, it)
+
+    def parted(self, asked: Message) -> tuple[Parted, Parted, Parted]:
+        """Parts what is set into cells for the transaction, objects of the cabinet, and those of the front."""
         cells, others, own = [], [], []
         for at, it in enumerate(asked.bindings, 1):
             if it.arcs in OBJECTS:
-                self.test(at, it)
                 own.append((at, it))
-            elif is_cell(it.arcs) and self.front.state == GATHERING:
+            elif self.transaction.state == GATHERING and is_of_a_table(it.arcs):
                 cells.append((at, it))
             else:
                 others.append((at, it))
-        self.transaction.has_room(cells)
-        await self.test_cells(cells)
-        if others:
-            status, index = await self.front.side.set([it for _, it in others])
-            if status:
-                raise Fault(status, others[index - 1][0] if 1 <= index <= len(others) else 0)
-        self.transaction.gather(cells)
-        for at, it in own:
-            await self.do(at, it)
+        return cells, others, own
 
-    async def test_cells(self, cells: list[tuple[int, Binding]]) -> None:
-        """Raises a cell that there is none of."""
-        for first in range(0, len(cells), MOST_BINDS):
-            some = cells[first : first + MOST_BINDS]
-            known = await self.front.side.get([it.arcs for _, it in some])
-            missing = next((at for at, it in some if known[it.arcs] is None), None)
-            if missing:
-                raise Fault(NO_SUCH_NAME, missing)
+    async def put_others(self, asked: Message, others: Parted) -> None:
+        """Sets objects of the cabinet in one message. What it refuses is raised."""
+        if not others:
+            return
+        status, index = await self.front.side.set([it for _, it in others])
+        if status:
+            at, it = others[index - 1] if 1 <= index <= len(others) else (0, others[0][1])
+            raise Fault(status if asked.version == V1 else of_the_cabinet(status, it.arcs, it.value), at)
 
-    def test(self, at: int, it: Binding) -> None:
-        """Raises what can't be set of the front's."""
+    def test(self, at: int, it: Binding, count: int) -> None:
+        """Raises what can't be set of the front's, in a message of so many bindings."""
         if it.arcs not in WRITABLE:
-            raise Fault(NO_SUCH_NAME, at)
+            raise Fault(NOT_WRITABLE, at)
         if it.value.tag not in (WHOLE_TIME if it.arcs == GLOBAL_TIME else (INTEGER,)):
-            raise Fault(BAD_VALUE, at)
+            raise Fault(WRONG_TYPE, at)
         value = value_of(it.value)
-        if it.arcs == TRANSACTION:
-            fine = self.transaction.may_go_to(value)
-        elif it.arcs[:-1] == PREEMPT_STATE:
-            fine = value in (0, 1)
-        else:
-            fine = value >= 0 if it.arcs == GLOBAL_TIME else 0 <= value <= ALL_BITS
-        if not fine:
-            raise Fault(BAD_VALUE, at)
+        most = 1 if it.arcs[:-1] == PREEMPT_STATE else ALL_BITS
+        if value < 0 or it.arcs != GLOBAL_TIME and value > most:
+            raise Fault(WRONG_VALUE, at)
+        if it.arcs == TRANSACTION and count > 1:
+            raise Fault(GEN_ERR, at)
 
     async def do(self, at: int, it: Binding) -> None:
         """Does what the setting of an object of the front asks for. What the street refuses is raised."""
         value = value_of(it.value)
-        if it.arcs == TRANSACTION:
-            await self.transaction.go_to(value)
-        elif it.arcs == GLOBAL_TIME:
+        if it.arcs == GLOBAL_TIME:
             await self.set_time(at, value)
         elif not all([await self.street.input(request) for request in self.requests(it.arcs, value)]):
             raise Fault(GEN_ERR, at)
 
     async def set_time(self, at: int, seconds: int) -> None:
-        """Sets the cabinet's clock to a second since 1970."""
-        status, _ = await self.front.side.set([Binding(CLOCK, whole(10 * (seconds % DAY)))])
+        """Sets the cabinet's clock to a second since 1970. The message has the date as its number (`Clocks`)."""
+        date, second = divmod(seconds, DAY)
+        status, _ = await self.front.side.set([Binding(CLOCK, whole(10 * second))], -1 - date)
         if status:
             raise Fault(status, at)
-        self.front.midnight = seconds // DAY * DAY
 
     def requests(self, name: Arcs, value: int) -> list[bytes]:
         """Returns the inputs by which an object gets a value: what is so already needs none."""
@@ -193,6 +233,12 @@ class Cabinet:
         return [b"ped %d %d" % (cabinet, 8 * group + bit + 1) for bit in BITS if pressed >> bit & 1]
 
 
+def absent(name: Arcs) -> Field:
+    """Returns what stands in the place of a value, where there is none: whether the object is missing or only this
+    instance of it (RFC 3416)."""
+    return Field(NO_SUCH_INSTANCE if has_type(name, TYPES) else NO_SUCH_OBJECT, b"")
+
+
 def value_of(value: Field) -> int:
     """Returns the number that an INTEGER, a Counter or a Gauge is."""
     return number_of(value.content) if value.tag == INTEGER else unsigned_of(value.content)
@@ -206,10 +252,11 @@ class Fronts:
         self.sessions = -1
         self.cabinets: list[Cabinet] = []
 
-    async def datagram(self, cabinet: int, octets: bytes) -> bytes | None:
+    async def datagram(self, cabinet: int, octets: bytes, manager: Manager = NOBODY) -> bytes | None:
         """Returns the reply to a datagram."""
         if self.sessions != self.street.renewals:
             self.sessions = self.street.renewals
             count = len(self.street.scenario["cabinets"])
-            self.cabinets = [Cabinet(self.street, number) for number in range(1, count + 1)]
-        return await self.cabinets[cabinet - 1].answer(octets)
+            before: list[Cabinet | None] = [*self.cabinets] or [None] * count
+            self.cabinets = [Cabinet(self.street, number, it) for number, it in enumerate(before, 1)]
+        return await self.cabinets[cabinet - 1].answer(octets, manager)

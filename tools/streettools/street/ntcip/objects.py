@@ -4,41 +4,38 @@ Names and numbers are those of the public standards as they are known here: MIB-
 and NTCIP 1202. Where that is in doubt docs/CLIENTS.md says so.
 """
 
-import calendar
-import time
 from collections.abc import Awaitable, Callable
-from dataclasses import dataclass, field
 
 from ...shared.ber import COUNTER, NAME, TIME_TICKS, Arcs, Field, name_content
+from ...shared.cells import PATTERNS, PREEMPTS, RINGS, SEQUENCES, SPLITS
 from ...shared.oids import (
-    ASC, CLOCK, CONTROL, COUNTER_OF_CYCLE, DETECTOR_GROUP, ENTRIES, GLOBAL, GLOBAL_TIME, MODE, OWN, PED_CALL,
-    PHASE_CONTROL, PREEMPT_CONTROL, PREEMPT_STATE, SEQUENCE_ENTRY, STATUS, SYSTEM, TRANSACTION, UNIT, VEH_CALL,
-    VERIFY_ERROR, VERIFY_STATUS,
+    ASC, CLOCK, CONTROL, COUNTER_OF_CYCLE, DETECTOR_GROUP, GLOBAL, GLOBAL_TIME, MODE, OWN, PED_CALL, PHASE_CONTROL,
+    PREEMPT_CONTROL, PREEMPT_STATE, STATUS, SYSTEM, TRANSACTION, VEH_CALL, VERIFY_ERROR, VERIFY_STATUS,
 )  # fmt: skip
 from ...shared.version import VERSION
+from ...shared.tables import ALL
 from ..street import Street
+from .judging import columns
+from .managers import Managers
 from .pdus import text, whole
 from .side import Side
+from .transaction import Transaction
 
 FLASH, COORD, SEEK = 6, 4, 3
-DAY = 86_400
+GROUP = 8
+"""The phases or detectors of a group."""
 COUNTER_END = 1 << 32
 
 
-@dataclass
 class Front:
     """What the front keeps of a cabinet."""
 
-    street: Street
-    side: Side
-    cabinet: int
-    midnight: int = field(default_factory=lambda: calendar.timegm(time.gmtime()) // DAY * DAY)
-    """The seconds at which the cabinet's day began, as globalTime counts them."""
-    people: list[int] = field(default_factory=lambda: [0, 0])
-    """The bits of the calls of people that were set last, by group."""
-    state: int = 1
-    verified: int = 1
-    error: bytes = b""
+    def __init__(self, street: Street, cabinet: int, managers: Managers) -> None:
+        self.street, self.cabinet = street, cabinet
+        self.side = Side(street, cabinet)
+        self.transaction = Transaction(self.side, street.downloads, managers)
+        self.people = [0, 0]
+        """The bits of the calls of people that were set last, by group."""
 
 
 Read = Callable[[Front], Awaitable[Field]]
@@ -62,6 +59,16 @@ def kept(told: Callable[[Front], Field]) -> Read:
     return read
 
 
+def by_stage(told: Callable[[Transaction], Field]) -> Read:
+    """Returns what reads a value of the transaction, which follows the cabinet's stage."""
+
+    async def read(front: Front) -> Field:
+        await front.transaction.look()
+        return told(front.transaction)
+
+    return read
+
+
 async def up_time(front: Front) -> Field:
     """Returns the hundredths of a second since the session began."""
     return whole(10 * front.street.session.taken, TIME_TICKS)
@@ -70,7 +77,7 @@ async def up_time(front: Front) -> Field:
 async def global_time(front: Front) -> Field:
     """Returns the cabinet's clock as seconds since 1970."""
     (clock,) = await front.side.numbers(CLOCK)
-    return whole((front.midnight + clock // 10) % COUNTER_END, COUNTER)
+    return whole(front.street.clocks.seconds(front.cabinet, clock) % COUNTER_END, COUNTER)
 
 
 async def flash_status(front: Front) -> Field:
@@ -98,7 +105,7 @@ async def sync_status(front: Front) -> Field:
 async def cycle_status(front: Front) -> Field:
     """Returns the whole seconds that are left of the cycle, 0 where no pattern runs."""
     pattern, counter = await front.side.numbers(STATUS, COUNTER_OF_CYCLE)
-    if not 1 <= pattern <= 48:
+    if pattern not in PATTERNS:
         return whole(0)
     (cycle,) = await front.side.numbers(ASC + (4, 7, 1, 2, pattern))
     return whole(max(0, cycle - counter // 10))
@@ -114,24 +121,24 @@ def scalars() -> dict[Arcs, Read]:
         SYSTEM + (7, 0): whole(72),
         GLOBAL + (1, 1, 0): whole(0),
         GLOBAL + (1, 2, 0): whole(1),
-        ASC + (1, 1, 0): whole(16),
-        ASC + (1, 3, 0): whole(2),
-        ASC + (2, 1, 0): whole(16),
-        ASC + (2, 3, 0): whole(2),
+        ASC + (1, 1, 0): whole(len(ALL)),
+        ASC + (1, 3, 0): whole(len(ALL) // GROUP),
+        ASC + (2, 1, 0): whole(len(ALL)),
+        ASC + (2, 3, 0): whole(len(ALL) // GROUP),
         ASC + (3, 5, 0): whole(2),
-        ASC + (4, 5, 0): whole(48),
-        ASC + (4, 8, 0): whole(16),
-        ASC + (6, 1, 0): whole(8),
-        ASC + (7, 1, 0): whole(2),
-        ASC + (7, 2, 0): whole(16),
+        ASC + (4, 5, 0): whole(len(PATTERNS)),
+        ASC + (4, 8, 0): whole(len(SPLITS)),
+        ASC + (6, 1, 0): whole(len(PREEMPTS)),
+        ASC + (7, 1, 0): whole(len(RINGS)),
+        ASC + (7, 2, 0): whole(len(SEQUENCES)),
     }
     made = {name: constant(value) for name, value in words.items()}
     made[SYSTEM + (5, 0)] = kept(lambda front: text(front.street.name_of(front.cabinet).encode()))
     made |= {SYSTEM + (3, 0): up_time, GLOBAL_TIME: global_time, ASC + (3, 6, 0): flash_status}
     made |= {ASC + (4, 11, 0): free_status, ASC + (4, 12, 0): cycle_status, ASC + (4, 13, 0): sync_status}
-    made[TRANSACTION] = kept(lambda front: whole(front.state))
-    made[VERIFY_STATUS] = kept(lambda front: whole(front.verified))
-    made[VERIFY_ERROR] = kept(lambda front: text(front.error))
+    made[TRANSACTION] = by_stage(lambda transaction: whole(transaction.state))
+    made[VERIFY_STATUS] = by_stage(lambda transaction: whole(transaction.verified))
+    made[VERIFY_ERROR] = by_stage(lambda transaction: text(transaction.error))
     return made
 
 
@@ -183,9 +190,5 @@ ORDER = sorted(OBJECTS)
 WRITABLE: set[Arcs] = {GLOBAL_TIME, TRANSACTION}
 WRITABLE |= {column + (group,) for column in (VEH_CALL, PED_CALL) for group in (1, 2)}
 WRITABLE |= {PREEMPT_STATE + (n,) for n in range(1, 9)}
-TABLES = [*ENTRIES.values(), SEQUENCE_ENTRY]
-
-
-def is_cell(name: Arcs) -> bool:
-    """Tells whether a name is one of a cell of the tables."""
-    return name in UNIT.values() or any(name[: len(table)] == table for table in TABLES)
+TYPES = columns() | {name[:-1] for name in OBJECTS}
+"""The object types that can be read, of the cabinet and of the front."""

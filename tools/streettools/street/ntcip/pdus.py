@@ -4,14 +4,21 @@ from ...shared.ber import INTEGER, OCTETS, Field, Malformed, number_content
 from ...shared.snmp import BULK, GET, GET_NEXT, RESPONSE, SET, V1, V2C, Binding, Message, message_of, octets_of
 
 ASKING = (GET, GET_NEXT, SET, BULK)
-NO_SUCH_NAME, BAD_VALUE, READ_ONLY, GEN_ERR, TOO_BIG = 2, 3, 4, 5, 1
-NEWER = {NO_SUCH_NAME: 17, BAD_VALUE: 10, READ_ONLY: 17}
-"""The error statuses of version 2c for those of version 1: notWritable, wrongValue."""
+TOO_BIG, NO_SUCH_NAME, BAD_VALUE, GEN_ERR = 1, 2, 3, 5
+"""Error statuses of version 1 (RFC 1157)."""
+WRONG_TYPE, WRONG_LENGTH, WRONG_VALUE, NO_CREATION, INCONSISTENT_VALUE = 7, 8, 10, 11, 12
+RESOURCE_UNAVAILABLE, NOT_WRITABLE = 13, 17
+"""Error statuses of version 2c (RFC 3416)."""
+OLDER = {
+    WRONG_TYPE: BAD_VALUE, WRONG_LENGTH: BAD_VALUE, WRONG_VALUE: BAD_VALUE, INCONSISTENT_VALUE: BAD_VALUE,
+    NO_CREATION: NO_SUCH_NAME, NOT_WRITABLE: NO_SUCH_NAME, RESOURCE_UNAVAILABLE: GEN_ERR,
+}  # fmt: skip
+"""The statuses of version 1 for those of version 2c, by RFC 3584."""
 MOST_OCTETS = 1472
 
 
 class Fault(Exception):
-    """A message can't be carried out: the status and the index of its reply."""
+    """A message can't be carried out: the status, in terms of version 2c, and the index of its reply."""
 
     def __init__(self, status: int, index: int) -> None:
         super().__init__(f"status {status}, index {index}")
@@ -37,12 +44,29 @@ def asked_of(octets: bytes) -> Message | None:
     return found if found.kind in ASKING else None
 
 
+def response(asked: Message, bindings: list[Binding], status: int = 0, index: int = 0) -> bytes:
+    """Returns the octets of the Response to a message, however many they are."""
+    if asked.version == V1:
+        status = OLDER.get(status, status)
+    return octets_of(asked._replace(kind=RESPONSE, first=status, second=index, bindings=bindings))
+
+
 def reply(asked: Message, bindings: list[Binding], status: int = 0, index: int = 0) -> bytes:
     """Returns the octets of the Response to a message; that it would be too big, if it would."""
-    if asked.version == V2C:
-        status = NEWER.get(status, status)
-    made = octets_of(asked._replace(kind=RESPONSE, first=status, second=index, bindings=bindings))
+    made = response(asked, bindings, status, index)
     if len(made) <= MOST_OCTETS:
         return made
-    left = asked.bindings if asked.version == V1 else []
-    return octets_of(asked._replace(kind=RESPONSE, first=TOO_BIG, second=0, bindings=left))
+    return response(asked, asked.bindings if asked.version == V1 else [], TOO_BIG)
+
+
+def cut_reply(asked: Message, bindings: list[Binding]) -> bytes:
+    """Returns the octets of the Response to a GetBulk, with as many bindings as there is room for."""
+    assert asked.version == V2C
+    made = response(asked, bindings)
+    while len(made) > MOST_OCTETS:
+        over = len(made) - MOST_OCTETS
+        while over > 0:
+            *bindings, last = bindings
+            over -= len(octets_of(asked._replace(bindings=[last]))) - len(octets_of(asked._replace(bindings=[])))
+        made = response(asked, bindings)
+    return made

@@ -13,19 +13,22 @@ class Silent(Exception):
 
 
 class Side:
-    """A cabinet of the street."""
+    """A cabinet of the street. What is asked here belongs to the turn of one datagram."""
 
     def __init__(self, street: Street, cabinet: int) -> None:
         self.street = street
         self.cabinet = cabinet
 
-    async def ask(self, kind: int, bindings: list[Binding]) -> Message:
+    async def ask(self, kind: int, bindings: list[Binding], number: int = 1) -> Message:
         """Returns the reply to a message."""
-        made = octets_of(Message(V1, self.street.community(), kind, 1, 0, 0, bindings))
-        octets = await self.street.datagram(self.cabinet, made)
+        octets = await self.street.message(self.cabinet, self.octets(kind, bindings, number))
         if octets is None:
             raise Silent
         return message_of(octets)
+
+    def octets(self, kind: int, bindings: list[Binding], number: int = 1) -> bytes:
+        """Returns the octets of a message."""
+        return octets_of(Message(V1, self.street.community(), kind, number, 0, 0, bindings))
 
     async def get(self, names: list[Arcs]) -> dict[Arcs, Field | None]:
         """Returns the values of some objects; None for one that there is none of."""
@@ -43,15 +46,29 @@ class Side:
     async def numbers(self, *names: Arcs) -> list[int]:
         """Returns the numbers of some objects, 0 for what is none."""
         found = await self.get(list(names))
-        values = (found[name] for name in names)
-        return [number_of(it.content) if it is not None and it.tag == INTEGER else 0 for it in values]
+        return [number_in(found[name]) for name in names]
 
     async def next(self, name: Arcs) -> Binding | None:
         """Returns the first object after a name, None after the last."""
         reply = await self.ask(GET_NEXT, [Binding(name, NOTHING)])
         return reply.bindings[0] if reply.first == 0 else None
 
-    async def set(self, bindings: list[Binding]) -> tuple[int, int]:
+    async def set(self, bindings: list[Binding], number: int = 1) -> tuple[int, int]:
         """Sets some objects; returns status and index of the reply."""
-        reply = await self.ask(SET, bindings)
+        reply = await self.ask(SET, bindings, number)
         return reply.first, reply.second
+
+    async def set_and_look(self, bindings: list[Binding], names: list[Arcs]) -> tuple[int, list[int]]:
+        """Sets some objects and reads others, so that nothing comes between; returns the status of the first reply and
+        the numbers of the second."""
+        reading = [Binding(name, NOTHING) for name in names]
+        replies = await self.street.messages(self.cabinet, [self.octets(SET, bindings), self.octets(GET, reading)])
+        if None in replies:
+            raise Silent
+        done, seen = (message_of(octets) for octets in replies if octets is not None)
+        return done.first, [number_in(it.value) for it in seen.bindings]
+
+
+def number_in(value: Field | None) -> int:
+    """Returns the number that a value is, 0 for what is none."""
+    return number_of(value.content) if value is not None and value.tag == INTEGER else 0

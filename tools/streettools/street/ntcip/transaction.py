@@ -1,105 +1,189 @@
-"""Tables set within a transaction of NTCIP 1201, as a download of the profile: begin, parts, verify, finish."""
+"""Tables set within a transaction of NTCIP 1201, as a download of the profile: begin, parts, verify, finish.
+
+After each step the cabinet's own stage is read, with nothing in between: what the transaction says is what the stage
+says. A manager whose transaction ended otherwise than it asked for gets an error until it begins again.
+"""
 
 from ...shared.ber import Arcs
-from ...shared.oids import BEGIN, DETAIL, FINISH, ID, OUTCOME, PART, ROW, TOTAL
+from ...shared.oids import BEGIN, DETAIL, FINISH, ID, OUTCOME, PART, ROW, STATE, TOTAL
 from ...shared.snmp import Binding
-from .objects import Front
-from .pdus import GEN_ERR, Fault, whole
+from ..known import Downloads
+from ..street import Manager
+from .judging import cell_columns, cells, has_type, misfit
+from .managers import Managers
+from .pdus import (
+    GEN_ERR, INCONSISTENT_VALUE, NO_CREATION, NOT_WRITABLE, RESOURCE_UNAVAILABLE, WRONG_VALUE, Fault, whole,
+)  # fmt: skip
+from .side import Side
 
 NORMAL, GATHERING, VERIFY, DONE = 1, 2, 3, 6
 NOT_DONE, WITH_ERROR, WITHOUT_ERROR = 1, 2, 3
-CELLS_OF_A_PART, TRIES, REFUSED = 24, 128, 8
+STAGED, VERIFIED, REFUSED = 1, 3, 8
+"""Outcomes of the cabinet's download stage; VERIFIED is a state of it, too, and so is DONE."""
+CELLS_OF_A_PART = 24
 MOST_CELLS = 768
 """How many cells a download may have."""
+BETWEEN = b"another download came between"
+NO_NUMBER = b"no download number is left: the last was 2147483647"
+ENDED = b"another manager has ended the transaction"
+
+Cells = list[tuple[int, Binding]]
+"""Cells that are set, each with its index in the message."""
+
+
+class Refused(Exception):
+    """A download that the cabinet doesn't take: why."""
+
+    def __init__(self, why: bytes) -> None:
+        super().__init__(why)
+        self.why = why
 
 
 class Transaction:
     """The transaction of a cabinet, and the cells that were set in it."""
 
-    def __init__(self, front: Front) -> None:
-        self.front = front
+    def __init__(self, side: Side, downloads: Downloads, managers: Managers) -> None:
+        self.side, self.downloads, self.managers = side, downloads, managers
+        self.state, self.verified, self.error = NORMAL, NOT_DONE, b""
         self.cells: dict[Arcs, Binding] = {}
         self.load = 0
-        self.is_verified = False
+        self.was_verified = False
 
-    def may_go_to(self, state: int) -> bool:
-        """Tells whether the state may be set now."""
-        if state == VERIFY:
-            return self.front.state == GATHERING
-        return state in (NORMAL, GATHERING)
+    # cells
 
-    def has_room(self, cells: list[tuple[int, Binding]]) -> None:
-        """Raises the first of some cells, each with its index, that the transaction has no room for."""
+    def test(self, given: Cells, manager: Manager, number: int) -> None:
+        """Raises the first of some cells that the transaction doesn't take: by its manager, by its name, its type and
+        its range, or because there is no room for it."""
         known = set(self.cells)
-        for at, it in cells:
+        for at, it in given:
+            if self.managers.is_late(manager, number) or not self.managers.holds(manager):
+                raise Fault(GEN_ERR, at)
+            kind = cells().get(it.arcs)
+            if kind is None:
+                raise Fault(NO_CREATION if has_type(it.arcs, cell_columns()) else NOT_WRITABLE, at)
+            if status := misfit(kind, it.value):
+                raise Fault(status, at)
             known.add(it.arcs)
             if len(known) > MOST_CELLS:
-                raise Fault(GEN_ERR, at)
+                raise Fault(RESOURCE_UNAVAILABLE, at)
 
-    def gather(self, cells: list[tuple[int, Binding]]) -> None:
+    def gather(self, given: Cells, manager: Manager) -> None:
         """Keeps cells for the download; one that was set before has its new value."""
-        self.cells |= {it.arcs: it for _, it in cells}
+        if given:
+            self.cells |= {it.arcs: it for _, it in given}
+            self.managers.ports.add(manager)
 
-    async def go_to(self, state: int) -> None:
-        """Sets the state."""
+    # states
+
+    async def go_to(self, state: int, manager: Manager, number: int) -> None:
+        """Sets the state, for a manager by a message of this number. What can't be done is raised."""
+        if state not in (NORMAL, GATHERING, VERIFY):
+            raise Fault(WRONG_VALUE, 1)
+        if self.managers.is_late(manager, number) or state != GATHERING and manager in self.managers.lost:
+            raise Fault(GEN_ERR, 1)
         if state == GATHERING:
-            self.cells, self.is_verified = {}, False
-            self.end(GATHERING, NOT_DONE, b"")
+            self.open(manager, number)
         elif state == VERIFY:
-            await self.verify()
+            await self.verify(manager)
         else:
-            if self.is_verified and self.cells:
-                await self.finish()
-            self.cells, self.is_verified = {}, False
-            self.front.state = NORMAL
+            await self.close(manager)
+
+    def open(self, manager: Manager, number: int) -> None:
+        """Opens the transaction. Cells that wait are never discarded by that: NORMAL does it."""
+        is_busy = bool(self.cells) or self.state == DONE
+        if not is_busy:
+            self.managers.opens(manager)
+            self.end(GATHERING, NOT_DONE, b"")
+        self.managers.asks(manager, number)
+        if is_busy:
+            raise Fault(GEN_ERR, 1)
 
     def end(self, state: int, verified: int, error: bytes) -> None:
         """Says where the transaction stands."""
-        self.front.state, self.front.verified, self.front.error = state, verified, error
+        self.state, self.verified, self.error = state, verified, error
+        self.was_verified = verified == WITHOUT_ERROR
 
-    async def begin(self) -> bool:
-        """Begins a download with the least number that the cabinet takes."""
-        for _ in range(TRIES):
-            self.load += 1
-            status, _ = await self.front.side.set([Binding(BEGIN, whole(self.load))])
-            if status == 0:
-                return True
-        return False
-
-    async def part(self, number: int, cells: list[Binding]) -> int | None:
-        """Sends a part; returns which of its cells is at fault, None where none is."""
-        head = [Binding(ID, whole(self.load)), Binding(PART, whole(number))]
-        status, index = await self.front.side.set(head + cells)
-        return None if status == 0 else max(0, index - len(head) - 1)
-
-    async def verify(self) -> None:
-        """Sends the cells, and has the tables tested as they would be."""
-        self.is_verified = False
-        cells = list(self.cells.values())
-        parts = [cells[at : at + CELLS_OF_A_PART] for at in range(0, len(cells), CELLS_OF_A_PART)]
-        if parts and not await self.begin():
-            self.end(DONE, WITH_ERROR, b"the cabinet begins no download")
+    async def verify(self, manager: Manager) -> None:
+        """Has the cells tested in the cabinet's stage. Once that is done it isn't done again."""
+        if self.state == NORMAL:
+            raise Fault(INCONSISTENT_VALUE, 1)
+        if not self.managers.holds(manager):
+            raise Fault(GEN_ERR, 1)
+        self.managers.ports.add(manager)
+        if self.state == DONE:
             return
-        for number, part in enumerate(parts, 1):
-            wrong = await self.part(number, part)
-            if wrong is not None:
-                name = ".".join(map(str, part[wrong].arcs))
-                self.end(DONE, WITH_ERROR, f"value of {name}".encode())
-                return
-        if parts and (said := await self.refused(len(parts))):
-            self.end(DONE, WITH_ERROR, said)
-            return
-        self.is_verified = True
-        self.end(DONE, WITHOUT_ERROR, b"")
+        try:
+            if self.cells:
+                await self.send(list(self.cells.values()))
+            self.end(DONE, WITHOUT_ERROR, b"")
+        except Refused as refused:
+            self.end(DONE, WITH_ERROR, refused.why)
 
-    async def refused(self, parts: int) -> bytes:
-        """Tells how many parts there were; returns the rule that tables would break, nothing where they keep all."""
-        status, _ = await self.front.side.set([Binding(ID, whole(self.load)), Binding(TOTAL, whole(parts))])
-        if status == 0:
-            return b""
-        outcome, rule, row = await self.front.side.numbers(OUTCOME, DETAIL, ROW)
-        return f"rule {rule} at row {row}".encode() if outcome == REFUSED else b"the download was refused"
+    async def close(self, manager: Manager) -> None:
+        """Ends the transaction for its manager: verified tables are put in force, others discarded. Another manager
+        discards them in any case; their own manager is told so when it speaks next."""
+        is_own = self.managers.holds(manager)
+        if not is_own and (self.state == NORMAL or self.managers.ending(manager) is not None):
+            await self.close_again(manager)
+        elif is_own and self.was_verified and self.cells:
+            await self.finish()
+        else:
+            self.managers.discarded(manager)
+            self.cells = {}
+            self.end(NORMAL, NOT_DONE if is_own else WITH_ERROR, b"" if is_own else ENDED)
 
     async def finish(self) -> None:
         """Puts the tables in force."""
-        await self.front.side.set([Binding(ID, whole(self.load)), Binding(FINISH, whole(1))])
+        done, (stage,) = await self.side.set_and_look([self.named(), Binding(FINISH, whole(1))], [STATE])
+        self.cells = {}
+        if done == 0 and stage == DONE:
+            self.managers.finished()
+            self.end(NORMAL, WITHOUT_ERROR, b"")
+            return
+        self.managers.failed()
+        self.end(NORMAL, WITH_ERROR, BETWEEN)
+        raise Fault(GEN_ERR, 1)
+
+    async def close_again(self, manager: Manager) -> None:
+        """Answers a NORMAL of a manager without a transaction as the one that ended its last transaction. Of a manager
+        that isn't known it is an error if tables are verified and not in force: they may be its own."""
+        ending = self.managers.ending(manager)
+        if ending is None:
+            (stage,) = await self.side.numbers(STATE)
+            ending = stage != VERIFIED
+        if not ending:
+            raise Fault(GEN_ERR, 1)
+
+    async def look(self) -> None:
+        """Reads whether verified tables are still those of the cabinet's stage, before it is told that they are."""
+        if self.verified == WITHOUT_ERROR and self.state == DONE and self.cells:
+            (stage,) = await self.side.numbers(STATE)
+            if stage != VERIFIED or self.downloads.greatest[self.side.cabinet] != self.load:
+                self.verified, self.error = WITH_ERROR, BETWEEN
+
+    # the download
+
+    def named(self) -> Binding:
+        """Returns the binding that names the download."""
+        return Binding(ID, whole(self.load))
+
+    async def send(self, given: list[Binding]) -> None:
+        """Sends cells, and has the tables tested as they would be. What the cabinet doesn't take is raised."""
+        number = self.downloads.next(self.side.cabinet)
+        if number is None:
+            raise Refused(NO_NUMBER)
+        self.load = number
+        await self.step([Binding(BEGIN, whole(number))], STAGED)
+        parts = [given[at : at + CELLS_OF_A_PART] for at in range(0, len(given), CELLS_OF_A_PART)]
+        for at, part in enumerate(parts, 1):
+            await self.step([self.named(), Binding(PART, whole(at)), *part], STAGED)
+        await self.step([self.named(), Binding(TOTAL, whole(len(parts)))], VERIFIED)
+
+    async def step(self, bindings: list[Binding], due: int) -> None:
+        """Does a step of the download, after which the stage must have this outcome."""
+        status, (outcome, rule, row) = await self.side.set_and_look(bindings, [OUTCOME, DETAIL, ROW])
+        if status == 0 and outcome == due:
+            return
+        if outcome == REFUSED:
+            raise Refused(f"rule {rule} at row {row}".encode())
+        raise Refused(BETWEEN)

@@ -1,0 +1,130 @@
+"""What messages have told each cabinet that can't be read from it: the number of its last download, and the date.
+
+Both hear every request with its answer, as the inputs do, so that a record that is replayed tells them the same.
+"""
+
+import calendar
+import time
+from collections.abc import Iterator
+from typing import Any
+
+from ..shared.ber import INTEGER, Arcs, Malformed, name_content, number_of
+from ..shared.oids import BEGIN, CLOCK
+from ..shared.session import Answer
+from ..shared.snmp import SET, Message, message_of
+from .session import reply_in
+
+DAY = 86_400
+TICKS_OF_A_DAY = 10 * DAY
+LAST_NUMBER, GAP = (1 << 31) - 1, 100
+
+
+def set_to(octets: bytes, name: Arcs) -> Iterator[tuple[Message, int]]:
+    """Yields the numbers to which a message would set an object, each with the message."""
+    try:
+        asked = message_of(octets)
+    except Malformed:
+        return
+    if asked.kind == SET:
+        for it in asked.bindings:
+            if it.arcs == name and it.value.tag == INTEGER:
+                yield asked, number_of(it.value.content)
+
+
+def taken(request: bytes, answer: Answer, name: Arcs) -> Iterator[tuple[int, Message, int]]:
+    """Yields the numbers to which a request has set an object, each with the cabinet and the message."""
+    reply = reply_in(answer) if answer else None
+    if reply is None or message_of(reply).first != 0:
+        return
+    _, cabinet, _, digits = request.split(b" ")
+    for asked, number in set_to(bytes.fromhex(digits.decode("ascii")), name):
+        yield int(cabinet), asked, number
+
+
+class Downloads:
+    """The greatest number of each cabinet's downloads: a download needs a greater one than all before.
+
+    The master's downloads, which have the numbers from 1 on, and those of the scenario's own messages count from the
+    start: of two downloads with one number the second would be answered as a copy of the first, and load nothing."""
+
+    DIGITS = name_content(BEGIN).hex().encode()
+
+    def __init__(self) -> None:
+        self.greatest: dict[int, int] = {}
+
+    def began(self, scenario: dict[str, Any]) -> None:
+        """A session begins."""
+        self.greatest = {number: 0 for number in range(1, len(scenario["cabinets"]) + 1)}
+        for it in scenario.get("loads", ()):
+            self.greatest[it["cabinet"]] += 1
+        for it in scenario.get("frames", ()):
+            for _, number in set_to(bytes.fromhex(it["hex"]), BEGIN):
+                self.begun(it["cabinet"], number)
+
+    def heard(self, request: bytes | None, answer: Answer) -> None:
+        """Takes a request that was answered."""
+        if request is not None and self.DIGITS in request:
+            for cabinet, _, number in taken(request, answer, BEGIN):
+                self.begun(cabinet, number)
+
+    def begun(self, cabinet: int, number: int) -> None:
+        """Takes the number of a download."""
+        self.greatest[cabinet] = max(self.greatest[cabinet], number)
+
+    def next(self, cabinet: int) -> int | None:
+        """Returns a number that a cabinet takes for a download, None if there is none. It is some way above the
+        greatest, so that a manager that counts on from that one doesn't meet it by chance."""
+        greatest = self.greatest[cabinet]
+        return min(greatest + GAP, LAST_NUMBER) if greatest < LAST_NUMBER else None
+
+
+class Clocks:
+    """The dates of the cabinets, whose own clocks have a time of day only.
+
+    A clock that passes midnight begins the next day; one that is set to another time stays in its day. The date is
+    that of the machine (UTC) until `globalTime` is set. The number of the message by which the front does that names
+    the date: it is -1 less the days since 1970."""
+
+    DIGITS = name_content(CLOCK).hex().encode()
+
+    def __init__(self, today: int | None = None) -> None:
+        self.today = today
+        self.ticks = 0
+        self.known: dict[int, tuple[int, int]] = {}
+        """By cabinet: the ticks at which the time was known last, and that time in ticks since 1970."""
+
+    def began(self, scenario: dict[str, Any]) -> None:
+        """A session begins."""
+        today = calendar.timegm(time.gmtime()) // DAY if self.today is None else self.today
+        self.ticks = 0
+        clocks = [it.get("clock", 0) for it in scenario["cabinets"]]
+        self.known = {number: (0, today * TICKS_OF_A_DAY + clock) for number, clock in enumerate(clocks, 1)}
+
+    def heard(self, request: bytes | None, answer: Answer) -> None:
+        """Takes a request that was answered."""
+        if request is None:
+            return
+        if request.startswith(b"tick "):
+            self.ticks += int(request[5:])
+        elif self.DIGITS in request:
+            for cabinet, asked, clock in taken(request, answer, CLOCK):
+                self.set(cabinet, asked.number, clock)
+
+    def set(self, cabinet: int, number: int, clock: int) -> None:
+        """Takes a clock that was set by a message of this number."""
+        day = -1 - number if number < 0 else self.expected(cabinet) // TICKS_OF_A_DAY
+        self.known[cabinet] = (self.ticks, day * TICKS_OF_A_DAY + clock)
+
+    def expected(self, cabinet: int) -> int:
+        """Returns the time that a cabinet has by the ticks that went by, in ticks since 1970."""
+        ticks, then = self.known[cabinet]
+        return then + self.ticks - ticks
+
+    def seconds(self, cabinet: int, clock: int) -> int:
+        """Returns the seconds since 1970 of a cabinet whose clock was read: the time next to the expected one, since
+        clocks drift and the master sets them."""
+        due = self.expected(cabinet)
+        half = TICKS_OF_A_DAY // 2
+        found = due + (clock - due + half) % TICKS_OF_A_DAY - half
+        self.known[cabinet] = (self.ticks, found)
+        return found // 10
