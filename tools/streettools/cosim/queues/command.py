@@ -53,6 +53,8 @@ def parser() -> argparse.ArgumentParser:
     words.add_argument(
         "--seed", type=number(0, 4_294_967_295), default=1, metavar="N", help="the seed of random arrivals (default: 1)"
     )
+    words.add_argument("--policy", type=pathlib.Path, metavar="FILE",
+                       help="a Python file whose function step(street) drives the cabinets")  # fmt: skip
     words.add_argument(
         "--keep-inputs", action="store_true", help="keep the scenario's inputs of detectors and push buttons"
     )
@@ -92,6 +94,16 @@ def given(words: argparse.Namespace) -> tuple[Volumes, dict[str, Any]]:
     return replace(volumes, idle=volumes.idle | (partners - busy)), street.scenario
 
 
+def maker_of(path: pathlib.Path | None, scenario: dict[str, Any]) -> queue_study.Makes | None:
+    """Returns what makes a policy of a street, None where there is no policy."""
+    if path is None:
+        return None
+    from .. import policies
+
+    cabinets, community, file = len(scenario["cabinets"]), scenario.get("community", "public"), path
+    return lambda street: policies.Policy(file, policies.Street(cabinets, street.waiting, community))
+
+
 def ran(words: argparse.Namespace) -> Ran:
     """Runs what the words ask for."""
     from ...shared.progress import bar
@@ -102,7 +114,7 @@ def ran(words: argparse.Namespace) -> Ran:
     shown = bar(round(asked.seconds * 10) // asked.step, "step")
     advance: Callable[[int], None] = (lambda step: None) if shown is None else lambda step: shown.update(1)
     try:
-        return queue_study.run(program, volumes, scenario, asked, advance)
+        return queue_study.run(program, volumes, scenario, asked, advance, maker_of(words.policy, scenario))
     finally:
         if shown is not None:
             shown.close()
