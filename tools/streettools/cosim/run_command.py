@@ -9,7 +9,7 @@ from ..shared.commandline import Parser, add_output, add_program, number
 from ..shared.fault import Fault
 from ..shared.program import found
 from ..shared.progress import bar
-from ..shared.saying import say
+from ..shared.saying import say, say_replaced
 from ..shared.status import Status
 from . import discharge, network
 from .drive import read_config
@@ -116,6 +116,7 @@ def main(words: list[str]) -> int:
     program = found(given_words.program)
     given = given_of(given_words)
     out = given_words.output
+    say_replaced("cosim", out / TRACE)
     out.mkdir(parents=True, exist_ok=True)
     shown = bar(int(given.seconds), "s", smoothing=0.05)
     try:

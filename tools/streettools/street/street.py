@@ -73,7 +73,7 @@ class Street:
         """The names of intersections, by their numbers."""
         self.after_message = 0
         """How many ticks go by after each datagram."""
-        self.stops_at_end = False
+        self.stops_at_end = self.is_replaying = False
         self.order = asyncio.Lock()
         self.session: Session
         self.closed: Session | None = None

@@ -8,7 +8,7 @@ from collections.abc import Callable
 from ...shared.commandline import Parser, add_json, add_output, add_program, number
 from ...shared.fault import Fault
 from ...shared.program import answering
-from ...shared.saying import say
+from ...shared.saying import say, say_replaced
 from ...shared.status import Status
 from .. import report
 from . import keeping
@@ -93,6 +93,7 @@ def does(words: argparse.Namespace) -> int:
     study = queue_study.study_of(came, folder / TRACE)
     value = keeping.value_of(came, study, street)
     if came.trace is not None:
+        say_replaced("cosim", study.trace)
         keeping.write(folder, came, study, street)
     sys.stdout.write(report.json_text(value) if words.json else report.text(value))
     sys.stdout.flush()
