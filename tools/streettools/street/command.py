@@ -22,7 +22,7 @@ from . import ports, words
 from .line import Line, Passed, line_of
 from .messages import Messages
 from .ntcip.front import Fronts
-from .pace import Pace
+from .pace import TICKS_A_SECOND, Pace
 from .record import Recorder, read_requests
 from .replay import Replay
 from .street import Hearer, Street
@@ -50,6 +50,10 @@ class Telling(Hearer):
         self.sessions += 1
         if self.sessions > 1:
             say("the session ended; a new one begins with start-up")
+
+    def ended_round(self, ticks: int) -> None:
+        seconds = ticks / TICKS_A_SECOND
+        say(f"many messages came while time stood: it has advanced by {seconds:g} s to the end of the round")
 
 
 def scenario_of(program: pathlib.Path, text: bytes) -> dict[str, Any]:

@@ -1,6 +1,7 @@
 """The environment of learners: what it shows, what its actions do, its numbers against a run by hand, and its ends."""
 
 import gc
+import json
 import os
 import shutil
 import signal
@@ -82,6 +83,26 @@ def test_the_reward_is_the_time_that_the_queue_model_reports():
     vehicles = sum(map(len, street.passages)) + sum(len(line.queue) for line in street.lines)
     assert abs(-sum(row[1] for row in rows) - waited) <= vehicles
     assert sum(row[2]["passed"] for row in rows) == sum(map(len, street.passages))
+
+
+def test_movements_are_those_that_the_command_reports(tmp_path):
+    """`arterial cosim queues` over the same scenario, volumes and seed. The environment commands free operation, in
+    which the cabinets are."""
+    scenario = json.loads(STREET[0].read_text()) | {"cabinets": [{"clock": 252_000}] * 4, "inputs": []}
+    (tmp_path / "free.json").write_text(json.dumps(scenario))
+    words = [TOP / "tools/streettools", "cosim", "queues", STREET[1], "--scenario", tmp_path / "free.json", "--seconds",
+             "300", "--seed", "4", "--json"]  # fmt: skip
+    said = subprocess.run([sys.executable, "-B", *map(str, words)], capture_output=True, text=True, timeout=120)
+    with arterial.env.StreetEnv(scenario, STREET[1], seconds=300) as it:
+        with pytest.raises(arterial.Error, match="no episode"):
+            it.movements()
+        episode(it, lambda seen: [0] * 4, seed=4)
+        found = it.movements()
+    for row, own in zip(json.loads(said.stdout)["movements"], found.itertuples(), strict=True):
+        assert (row["cabinet"], row["movement"], row["vehicles"]) == (own.cabinet, own.movement, own.vehicles)
+        assert row["delay"] == pytest.approx(own.delay_s, nan_ok=True) or row["delay"] is None
+        assert row["queue_greatest"] == own.queue_greatest and row["split_failures"] == own.split_failures
+    assert found.vehicles.sum() > 200
 
 
 def test_rewards_weigh_delay_and_stops_or_are_the_callers_own():

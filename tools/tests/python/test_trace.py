@@ -1,5 +1,7 @@
 """The tables of a trace, with values worked by hand; slices; texts that are no traces; pictures."""
 
+import subprocess
+
 import arterial
 import matplotlib
 import pytest
@@ -160,6 +162,23 @@ def test_all_traces_of_the_examples_have_tables(program):
         assert not trace.frames().empty
         for table in TABLES:
             getattr(trace, table)()
+
+
+@pytest.mark.parametrize("seed", [1, 2, 3])
+def test_tables_of_generated_scenarios_agree_with_plain_counts_of_lines(program, seed):
+    """Polls, downloads, lost messages and all inputs (docs/SCENARIO.md, "A scenario that is generated")."""
+    words = [program, "generate", "--seed", str(seed), "--cabinets", "3", "--rounds", "120"]
+    trace = arterial.run(subprocess.run(words, capture_output=True, check=True).stdout, program=program)
+    lines = [it.split() for it in trace.text.decode().splitlines()]
+    counts = {letter: sum(it[0] == letter for it in lines) for letter in "FLM"}
+    assert (len(trace.frames()), len(trace.downloads()), len(trace.notes())) == tuple(counts.values())
+    begun, before = 0, {str(number): "R" * 16 for number in (1, 2, 3)}
+    for _, cabinet, _, shown, *_ in (it for it in lines if it[0] == "F"):
+        begun += sum(now == "G" != was for was, now in zip(before[cabinet], shown))
+        before[cabinet] = shown
+    assert len(trace.greens()) == begun > 10
+    events = trace.events()
+    assert (events.event == 1).sum() == begun
 
 
 def test_greens_are_counted_as_the_report_counts_them(street):
