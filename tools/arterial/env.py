@@ -35,11 +35,13 @@ from .errors import Error, Over, Refused, own
 from .given import value_of
 from .lives import end_here
 from .programs import path_of
-from .traces import Trace
+from .traces import Trace, table
 from .traffic import Queues, read
 from .vector import VectorEnv
 
 if TYPE_CHECKING:
+    import pandas
+
     from . import traffic
     from .given import Given
     from .sumo import Sumo
@@ -71,7 +73,7 @@ def weights_of(reward: "Reward") -> "Mapping[str, float] | Callable[[dict[str, f
     return {name: float(weight) for name, weight in found.items()}
 
 
-class StreetEnv:
+class StreetEnv(spaces.Env):
     """A street under traffic: vehicles wait in queues (docs/QUEUES.md), or SUMO drives them (docs/COSIM.md).
 
     - `scenario`: the cabinets, as for `arterial.run`; its own inputs of detectors and buttons are left out;
@@ -122,6 +124,7 @@ class StreetEnv:
         self._commands = self._messages()
         self._random = random.Random()
         self._run: Queues | Sumo | None = None
+        self._ended: Queues | Sumo | None = None
         self._trace: Trace | None = None
         self._finalizer: Any = None
 
@@ -250,6 +253,21 @@ class StreetEnv:
             raise Error("no episode has ended whose trace was kept (keep_trace=True)")
         return self._trace
 
+    def movements(self) -> "pandas.DataFrame":
+        """Returns what was measured in the episode that ended last, a row for each movement, as `arterial cosim queues`
+        reports it (docs/QUEUES.md).
+
+        Columns: `cabinet`, `movement`, `phase`, `vehicles` (that passed), `delay_s` (mean) and `delay_95_s` (95 %),
+        `level` (of service), `stops` (mean), `on_green`, `green` and `platoon_ratio`, `queue_mean`, `queue_greatest`
+        and `left` (at the end), in vehicles, `greens` and `split_failures`.
+        """
+        if self._ended is None:
+            raise Error("no episode has ended")
+        with own():
+            rows = self._ended.report()["movements"]
+        found = table((tuple(it.values()) for it in rows), *rows[0])
+        return found.rename(columns={"delay": "delay_s", "delay_95": "delay_95_s"})
+
     # parts of a step
 
     def _requests(self, action: Any) -> list[bytes]:
@@ -314,6 +332,7 @@ class StreetEnv:
                     run.finish()
                     self._trace = Trace(run.trace())
         finally:
+            self._ended = run
             self._end()
 
     def _end(self) -> None:

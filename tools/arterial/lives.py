@@ -1,6 +1,7 @@
 """A live session: cabinets that take inputs, messages and ticks as a program asks for them."""
 
 import asyncio
+import functools
 import os
 import threading
 import weakref
@@ -211,7 +212,7 @@ class Street:
             self._session.end()
             self._lock.release()
 
-    @property
+    @functools.cached_property
     def trace(self) -> Trace:
         """The record of a session that has ended, as a trace that `arterial.check` accepts: of its whole rounds."""
         if not self.is_over:

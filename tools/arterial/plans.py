@@ -1,5 +1,6 @@
 """Timing plans: sheets, workbooks, scenarios and UTDF files; what is wrong with them in words; downloads and bands."""
 
+import contextlib
 import json
 import os
 import pathlib
@@ -9,7 +10,7 @@ from typing import TYPE_CHECKING, Any, NamedTuple
 from streettools.shared import program as starting
 from streettools.shared.fault import Fault
 
-from .errors import Refused, own
+from .errors import NoProgram, Refused, own
 from .pictures import Picture, made
 from .programs import path_of
 from .runs import died, refused
@@ -151,11 +152,15 @@ class Plan:
     # checks
 
     def check(self, program: Path | None = None) -> list[Finding]:
-        """Returns all that is wrong with the plan: what the program would refuse first, then warnings, then notes."""
+        """Returns all that is wrong with the plan: what the program would refuse first, then warnings, then notes. The
+        program is asked for bands only; if none is found a note says so."""
         from streettools.plan import check
 
+        path: str | None = None
+        with contextlib.suppress(NoProgram):
+            path = str(path_of(program))
         with own():
-            found = check.findings(self._source, str(path_of(program)))
+            found = check.findings(self._source, path)
         return [Finding(it.level.value, it.where, it.words, it.rule) for it in found]
 
     def is_accepted(self, program: Path | None = None) -> bool:

@@ -1,8 +1,20 @@
-"""The spaces of observations and actions: gymnasium's where it is installed, else small classes with the same use."""
+"""The spaces of observations and actions, and what an environment derives from: gymnasium's if it is installed, else
+small classes with the same use."""
 
-from typing import Any
+from typing import TYPE_CHECKING, Any
 
 import numpy
+
+if TYPE_CHECKING:
+
+    class Env:
+        """What an environment derives from."""
+
+else:
+    try:
+        from gymnasium import Env
+    except ImportError:
+        Env = object
 
 
 class Space:

@@ -148,6 +148,10 @@ class Sumo:
         """Ends the session at the end of its round."""
         self.session.close()
 
+    def report(self) -> dict[str, Any]:
+        """Refuses a report: it is made of files that SUMO writes at its end."""
+        raise Error("with SUMO there is no table of movements: `arterial cosim run` reports them")
+
     def trace(self) -> bytes:
         """Returns the trace of a run that has ended."""
         return b"".join(self.session.record.trace())

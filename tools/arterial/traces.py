@@ -7,6 +7,7 @@ import pathlib
 from collections.abc import Iterable, Sequence
 from typing import TYPE_CHECKING, Any, NamedTuple
 
+from streettools.shared.lines import LONGEST
 from streettools.shared.trace_records import Frame
 
 from . import walks
@@ -37,6 +38,23 @@ class Span(NamedTuple):
     end: float = float("inf")
 
 
+class Walked:
+    """The rows of a trace, collected when they are first asked for; all views of a trace share them."""
+
+    def __init__(self, text: bytes) -> None:
+        self.text = text
+
+    @functools.cached_property
+    def rows(self) -> walks.Rows:
+        """The rows of all tables but that of events."""
+        return walks.rows_of(self.text)
+
+    @functools.cached_property
+    def events(self) -> list[walks.Event]:
+        """The rows of the table of events."""
+        return walks.events_of(self.text)
+
+
 class Trace:
     """A trace: the text that a run or a session wrote, and its tables.
 
@@ -63,8 +81,7 @@ class Trace:
         """The number of cabinets."""
         self.seconds: float = reader.rounds * reader.ticks / 10
         """The length of the run in seconds."""
-        self._walked: walks.Rows | None = None
-        self._events: list[walks.Event] | None = None
+        self._walked = Walked(self.text)
 
     @classmethod
     def read(cls, path: str | os.PathLike[str]) -> "Trace":
@@ -118,11 +135,6 @@ class Trace:
         found._span = span
         return found
 
-    def _rows(self) -> walks.Rows:
-        if self._walked is None:
-            self._walked = walks.rows_of(self.text)
-        return self._walked
-
     def _is_shown(self, cabinet: int, start: int, end: int | None = None) -> bool:
         """Tells whether a row is in the view: one of a moment, or one that lasts up to an end."""
         if self._span.cabinet not in (None, cabinet):
@@ -148,7 +160,7 @@ class Trace:
         rows = (
             (it.tick / 10, it.cabinet, it.vehicles, it.pedestrians, it.mode, it.counter / 10, it.target / 10,
              it.version)
-            for it in self._rows().frames
+            for it in self._walked.rows.frames
             if self._is_shown(it.cabinet, it.tick)
         )  # fmt: skip
         return table(
@@ -164,7 +176,7 @@ class Trace:
         """
         rows = (
             (it.cabinet, it.phase, it.start / 10, it.end / 10, (it.end - it.start) / 10, it.ending, it.mode)
-            for it in self._rows().greens
+            for it in self._walked.rows.greens
             if self._is_shown(it.cabinet, it.start, it.end)
         )
         return table(rows, "cabinet", "phase", "start_s", "end_s", "green_s", "ending", "mode")
@@ -179,7 +191,7 @@ class Trace:
             (it.cabinet, it.pattern, it.phase, it.start / 10, (it.green_end - it.start) / 10,
              (it.yellow_end - it.green_end) / 10, (it.end - it.yellow_end) / 10, (it.end - it.start) / 10,
              None if it.split_ticks is None else it.split_ticks / 10, it.ending)
-            for it in self._rows().served
+            for it in self._walked.rows.served
             if self._is_shown(it.cabinet, it.start, it.end)
         )  # fmt: skip
         return table(
@@ -194,11 +206,9 @@ class Trace:
         Columns: `time_s`, `cabinet`, `event` (the code), `parameter` (a phase, a preempt, ..), `name` (the code in
         words).
         """
-        if self._events is None:
-            self._events = walks.events_of(self.text)
         rows = (
             (it.tick / 10, it.cabinet, it.code, it.parameter, EVENTS.get(it.code, ""))
-            for it in self._events
+            for it in self._walked.events
             if self._is_shown(it.cabinet, it.tick)
         )
         return table(rows, "time_s", "cabinet", "event", "parameter", "name")
@@ -211,7 +221,7 @@ class Trace:
         """
         rows = (
             (it.tick / 10, it.cabinet, it.round, it.words)
-            for it in self._rows().notes
+            for it in self._walked.rows.notes
             if self._is_shown(it.cabinet, it.tick)
         )
         return table(rows, "time_s", "cabinet", "round", "words")
@@ -224,7 +234,7 @@ class Trace:
         """
         rows = (
             (it.tick / 10, it.cabinet, it.number, it.version is not None, it.version, it.rule, it.row)
-            for it in self._rows().downloads
+            for it in self._walked.rows.downloads
             if self._is_shown(it.cabinet, it.tick)
         )
         found = table(rows, "time_s", "cabinet", "download", "accepted", "version", "rule", "row")
@@ -239,7 +249,7 @@ class Trace:
         """
         rows = (
             (it.tick / 10, it.cabinet, it.pattern, it.is_pickup, seconds(it.error), it.is_met, seconds(it.elapsed))
-            for it in self._rows().zeros
+            for it in self._walked.rows.zeros
             if self._is_shown(it.cabinet, it.tick)
         )
         return table(rows, "time_s", "cabinet", "pattern", "pickup", "error_s", "on_offset", "cycle_s")
@@ -248,7 +258,7 @@ class Trace:
         """Returns what each cabinet of the view shows at a moment, by its number: the frame in force then."""
         if not 0 <= time_s <= self.seconds:
             raise Error(f"the trace has 0 to {self.seconds:g} s, not {time_s!r}")
-        rows = self._rows().frames
+        rows = self._walked.rows.frames
         shown = [it for it in rows if it.tick <= time_s * 10 + 1e-6 and self._span.cabinet in (None, it.cabinet)]
         return {it.cabinet: it for it in shown}
 
@@ -273,10 +283,11 @@ class Trace:
 
 
 def octets_of(path: str | os.PathLike[str]) -> bytes:
-    """Returns the content of a file."""
+    """Returns the content of a file, at most one octet more than a trace may have."""
     with own():
         try:
-            return pathlib.Path(path).read_bytes()
+            with open(path, "rb") as file:
+                return file.read(LONGEST + 1)
         except ValueError:
             raise Error(f"{path!r}: not the name of a file") from None
 

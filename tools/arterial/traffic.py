@@ -6,12 +6,13 @@ from typing import Any
 
 import numpy
 
+from streettools.cosim import report
 from streettools.cosim.queues import checks
 from streettools.cosim.queues.demand import demand_of
 from streettools.cosim.queues.session import Cabinets
 from streettools.cosim.queues.signals import Signals
 from streettools.cosim.queues.street import Street
-from streettools.cosim.queues.study import Asked, session_of
+from streettools.cosim.queues.study import Asked, Ran, session_of, study_of
 from streettools.cosim.queues.volumes import Volumes, volumes_of
 from streettools.shared.given import content_of, toml_of
 
@@ -42,6 +43,7 @@ class Queues:
     ) -> None:  # fmt: skip
         asked = Asked(seconds, ticks, seed, keeps_trace=keeps)
         made, self.steps = session_of(scenario, asked)
+        self.volumes = volumes
         demand = demand_of(volumes, seed, checks.starts_at(scenario), seconds)
         self.street = Street(volumes, demand, self.steps)
         self.signals = Signals(len(scenario["cabinets"]))
@@ -100,6 +102,13 @@ class Queues:
     def finish(self) -> None:
         """Ends the run at the end of its round."""
         self.cabinets.close()
+
+    def report(self) -> dict[str, Any]:
+        """Returns the report of a run that has ended, as `arterial cosim queues --json` writes it."""
+        street, asked = self.street, Asked(self.steps.seconds, self.steps.ticks)
+        self.signals.close(self.steps.seconds)
+        ran = Ran(self.volumes, asked, street, self.signals, street.demand, len(self.queues), None)
+        return report.collect(study_of(ran, pathlib.Path("session.trace")), self.signals.greens)
 
     def trace(self) -> bytes:
         """Returns the trace of a run that has ended and was kept."""

@@ -11,7 +11,7 @@ from ..shared.commandline import Parser, add_json, add_output, add_program, numb
 from ..shared.fault import Fault
 from ..shared.given import Given, read_toml
 from ..shared.progress import bar
-from ..shared.saying import say
+from ..shared.saying import say, say_replaced
 from ..shared.status import Status
 from . import comparing, comparing_queues, verdicts
 from .comparison import Result, Row, Terms, do_all, rows_of
@@ -157,6 +157,7 @@ def main(given: list[str]) -> int:
     text = text_of(comparison.terms, rows)
     document = json.dumps(document_of(comparison.terms, rows), indent=1) + "\n"
     if words.output is not None:
+        say_replaced("cosim", words.output / "comparison.json")
         words.output.mkdir(parents=True, exist_ok=True)
         (words.output / "comparison.txt").write_text(text, encoding="utf-8")
         (words.output / "comparison.json").write_text(document, encoding="utf-8")

@@ -59,6 +59,7 @@ def of(given: Given, folder: pathlib.Path) -> Comparison:
     """Reads a comparison; files are named from its folder."""
 
     def plan_of(row: Given) -> Plan:
+        row.place = f"plan {row.need('name', str)}: "
         controller = row.take("controller", str, CABINETS)
         if controller not in CONTROLLERS:
             raise row.refuse("controller", f"is {controller}, and has to be {', '.join(CONTROLLERS)}")

@@ -61,7 +61,9 @@ def of(given: Given, folder: pathlib.Path) -> Comparison:
     """Reads a comparison; files are named from its folder."""
 
     def plan_of(row: Given) -> Plan:
-        name, scenario = row.need("name", str), folder / row.need("scenario", str)
+        name = row.need("name", str)
+        row.place = f"plan {name}: "
+        scenario = folder / row.need("scenario", str)
         return Plan(name, scenario, row.numbers("offsets", 255), row.within("pattern", int, 1, 48))
 
     plans = given.each("plan", plan_of)

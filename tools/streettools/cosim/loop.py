@@ -23,6 +23,8 @@ from .halts import Halts
 from .mapping import Map
 from .network import Network
 from .persons import Buttons
+from .policies import Policy
+from .policies import Street as PolicyStreet
 from .preempts import Preempts
 from .priority import Priority
 from .session import Session
@@ -36,7 +38,7 @@ MOST_ROUNDS = 86_400
 @dataclass(frozen=True)
 class Given:
     """What a run is of: SUMO's configuration, map, network, scenario; step and length in seconds; the seed; whether
-    buses ask for priority; from which second on trips count."""
+    buses ask for priority; from which second on trips count; the policy that drives the cabinets, if there is one."""
 
     config: Config
     street: Map
@@ -49,6 +51,7 @@ class Given:
     warm: float = 0.0
     names: dict[int, str] = field(default_factory=dict)
     """What cabinets are called, as far as they have names."""
+    policy: pathlib.Path | None = None
 
     def ticks(self) -> int:
         """Returns the ticks of a step."""
@@ -111,6 +114,12 @@ class Loop:
         self.priority = Priority(street, network, given.scenario.get("community", "public"))
         self.preempts = Preempts(street, network)
         self.watched = Watched(self.preempts.names() | (self.priority.names() if given.priority else set()), sumo)
+        self.policy: Policy | None = None
+        if given.policy is not None:
+            its = Standing(street, self.halts)
+            community = given.scenario.get("community", "public")
+            self.policy = Policy(given.policy, PolicyStreet(len(given.scenario["cabinets"]), its.waiting, community))
+            self.policy.heard(session.opened)
         self.room = Room(given.scenario)
         self.times = Times()
         self.second = 0.0
@@ -141,11 +150,15 @@ class Loop:
         stepped = self.clock()
         self.second = round((step + 1) * self.given.step, 1)
         requests = self.requests(is_whole)
+        if self.policy is not None:
+            requests += self.policy.requests(self.second, requests)
         asked = self.clock()
         lines = self.session.tick(self.ticks, requests)
         came = self.clock()
         if lines:
             self.priority.heard(lines)
+            if self.policy is not None:
+                self.policy.heard(lines)
         if lines or self.signals.always:
             self.signals.show(self.sumo, lines, (step + 1) * self.ticks)
         self.watch.look(self.second)
@@ -172,6 +185,22 @@ class Loop:
             if self.room.is_used(self.session.record):
                 raise Fault(f"second {self.second:.0f}: the record is full: a trace holds no more", Status.FULL)
         return requests
+
+
+class Standing:
+    """How many vehicles stand on the lanes of each movement, by the last look at halts."""
+
+    def __init__(self, street: Map, halts: Halts) -> None:
+        self.halts = halts
+        self.lanes = {
+            (signal.cabinet, it.name): {link.split(" ")[0] for link in it.links}
+            for signal in street.signals
+            for it in signal.movements
+        }
+
+    def waiting(self, cabinet: int, movement: str) -> int:
+        """Returns how many vehicles stand on the lanes of a movement."""
+        return sum(len(self.halts.standing.get(lane, ())) for lane in self.lanes[cabinet, movement])
 
 
 @contextlib.contextmanager

@@ -5,7 +5,7 @@ import pathlib
 
 from ..shared import files
 from ..shared.commandline import Parser, add_output
-from ..shared.saying import say
+from ..shared.saying import say, say_replaced
 from ..shared.status import Status
 from ..shared.tables import Tables
 from . import network
@@ -76,6 +76,8 @@ def main(given: list[str]) -> int:
     said = Said(main_way, dict(words.phase), frozenset(words.yields), words.permissive, words.length, tables(words))
     maker = Maker(network.read(path), said)
     text = maker.text(path.name)
+    if words.output is not None:
+        say_replaced("cosim", pathlib.Path(words.output))
     with files.output(words.output) as out:
         out.write(text)
     for it in maker.questions:

@@ -9,7 +9,7 @@ from ..shared.commandline import Parser, add_output, add_program, number
 from ..shared.fault import Fault
 from ..shared.program import found
 from ..shared.progress import bar
-from ..shared.saying import say
+from ..shared.saying import say, say_replaced
 from ..shared.status import Status
 from . import discharge, network
 from .drive import read_config
@@ -66,6 +66,8 @@ def parser() -> argparse.ArgumentParser:
                        help="report lanes that don't discharge N vehicles an hour (default: 1800)")  # fmt: skip
     words.add_argument("--lost", type=number(0, 10), default=2, metavar="S",
                        help="report lanes that don't lose S seconds as a queue starts (default: 2)")  # fmt: skip
+    words.add_argument("--policy", type=pathlib.Path, metavar="FILE",
+                       help="a Python file whose function step(street) drives the cabinets")  # fmt: skip
     words.add_argument("--no-priority", action="store_true", help="buses don't request priority")
     add_program(words)
     return words
@@ -81,7 +83,7 @@ def given_of(words: argparse.Namespace) -> Given:
     if words.warm >= seconds:
         raise Fault(f"--warm {words.warm} is not less than the {seconds:g} seconds of the run")
     given = Given(config, street, known, scenario, words.step, seconds, words.seed, not words.no_priority, words.warm)
-    return replace(given, names=called_in(read_street(words.scenario).names))
+    return replace(given, names=called_in(read_street(words.scenario).names), policy=words.policy)
 
 
 def tell(done: Done, given: Given, out: pathlib.Path) -> None:
@@ -116,6 +118,7 @@ def main(words: list[str]) -> int:
     program = found(given_words.program)
     given = given_of(given_words)
     out = given_words.output
+    say_replaced("cosim", out / TRACE)
     out.mkdir(parents=True, exist_ok=True)
     shown = bar(int(given.seconds), "s", smoothing=0.05)
     try:

@@ -78,7 +78,7 @@ class Names:
             return int(text)
         known = {number: " ".join(self.intersection(number).name.split()) for number in range(1, count + 1)}
         if not any(known.values()):
-            raise Fault(f"no name is known here, so not {text!r} either: --names gives names")
+            raise Fault(f"no name is known here, so not {text!r} either: a timing sheet or a names file gives names")
         fits = [number for number, name in known.items() if name.casefold() == text.casefold()]
         fits = fits or [number for number, name in known.items() if text.casefold() in name.casefold()]
         if len(fits) != 1:

@@ -1,6 +1,7 @@
 """docs/PYTHON-REFERENCE.md: every public name of the package arterial, from its docstrings and types."""
 
 import dataclasses
+import functools
 import importlib
 import inspect
 import re
@@ -33,6 +34,7 @@ GROUPS = (
 )  # fmt: skip
 """The names of the package, in the order of the page."""
 WIDTH = 120
+VALUES = (property, functools.cached_property)
 QUOTED = re.compile(r"'([A-Za-z_][\w.\[\], |]*)'")
 LONG = re.compile(r"\b(?:arterial|streettools|collections\.abc|typing|pathlib|pandas\.core\.frame)(?:\.\w+)*\.(?=\w)")
 
@@ -92,7 +94,7 @@ def prose(text: str) -> Iterator[str]:
 def members(thing: type) -> Iterator[tuple[str, Any]]:
     """Yields the public methods and properties of a class itself, in the order of the source."""
     for name, it in vars(thing).items():
-        if not name.startswith("_") and (inspect.isfunction(it) or isinstance(it, (property, classmethod))):
+        if not name.startswith("_") and (inspect.isfunction(it) or isinstance(it, (*VALUES, classmethod))):
             yield name, it
 
 
@@ -132,8 +134,8 @@ def section(name: str) -> Iterator[str]:
 
 def member(name: str, thing: Any) -> Iterator[str]:
     """Yields the parts of a method or a property."""
-    if isinstance(thing, property):
-        yield f"**`{name}`**: {one_line(thing.fget.__doc__)}\n"
+    if isinstance(thing, VALUES):
+        yield f"**`{name}`**: {one_line(thing.__doc__)}\n"
         return
     is_made = isinstance(thing, classmethod)
     called = thing.__func__ if is_made else thing

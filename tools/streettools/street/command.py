@@ -3,6 +3,7 @@
 import argparse
 import asyncio
 import contextlib
+import ipaddress
 import json
 import pathlib
 import signal
@@ -18,8 +19,10 @@ from ..shared.given import content_of
 from ..shared.program import NoProgram, answering, ran
 from ..shared.status import Status
 from . import ports, words
+from .line import Line, Passed, line_of
+from .messages import Messages
 from .ntcip.front import Fronts
-from .pace import Pace
+from .pace import TICKS_A_SECOND, Pace
 from .record import Recorder, read_requests
 from .replay import Replay
 from .street import Hearer, Street
@@ -48,6 +51,10 @@ class Telling(Hearer):
         if self.sessions > 1:
             say("the session ended; a new one begins with start-up")
 
+    def ended_round(self, ticks: int) -> None:
+        seconds = ticks / TICKS_A_SECOND
+        say(f"many messages came while time stood: it has advanced by {seconds:g} s to the end of the round")
+
 
 def scenario_of(program: pathlib.Path, text: bytes) -> dict[str, Any]:
     """Returns the scenario that a text is, once the program has opened a session with it."""
@@ -62,7 +69,28 @@ def text_of(path: str) -> bytes:
         from ..plan import taking  # takes a while
 
         return json.dumps(taking.sheet(path).scenario).encode()
-    return content_of(path).replace(b"\n", b" ")
+    return in_order(content_of(path).replace(b"\n", b" "))
+
+
+def in_order(text: bytes) -> bytes:
+    """Returns a scenario whose downloads and priority requests are in the order of their rounds, as a session asks.
+    `run` takes them in any order, and `generate` writes them so; a line says that they were sorted."""
+    try:
+        told = json.loads(text)
+        lists = {name: told.get(name, []) for name in ("loads", "priority")}
+        moved = [name for name, items in lists.items() if sorted(items, key=round_of) != items]
+    except (ValueError, RecursionError, AttributeError, TypeError, KeyError):
+        return text  # the program says what is wrong with it
+    for name in moved:
+        told[name] = sorted(told[name], key=round_of)
+        say(f"the items of {name} were sorted by round")
+    return json.dumps(told, separators=(",", ":")).encode() if moved else text
+
+
+def round_of(item: dict[str, Any]) -> int:
+    """Returns the round of an item of a scenario."""
+    number: int = item["round"]
+    return number
 
 
 def asked_for(given: argparse.Namespace, program: pathlib.Path) -> tuple[dict[str, Any], list[bytes]]:
@@ -105,7 +133,9 @@ def tell_places(street: Street, places: list[ports.Place]) -> None:
 async def held(street: Street, requests: list[bytes], by_clock: bool) -> None:
     """Lets the street live: what is to happen again first."""
     if requests:
+        street.is_replaying = True
         await Replay(street, requests, street.pace if by_clock else None).play()
+        street.is_replaying = False
         street.pace.restart()
         if not by_clock:
             say(f"{street.session.taken} ticks have happened again")
@@ -133,6 +163,16 @@ class Opened:
         """Returns what hears of the street for it."""
         return [self.state, self.panel]
 
+    def hearing(self, asks: ports.Asked) -> ports.Asked:
+        """Returns what asks the cabinets, and shows in the panel what was asked and answered."""
+
+        async def asked(cabinet: int, octets: bytes, manager: ports.Manager) -> bytes | None:
+            reply = await asks(cabinet, octets, manager)
+            self.state.exchanged(cabinet, octets, reply)
+            return reply
+
+        return asked
+
     async def open(self, street: Street, stack: contextlib.AsyncExitStack) -> None:
         """Opens the server, and says where it is."""
         from .panel import called
@@ -158,6 +198,27 @@ class Asked:
     requests: list[bytes]
     sockets: list[socket.socket]
     panel: Opened | None
+    line: Line | None
+
+
+def wire_of(asked: Asked, stack: contextlib.AsyncExitStack) -> ports.Wire | None:
+    """Returns what is between the ports and managers, None if there is nothing. The file of messages is closed at the
+    end."""
+    if asked.line is None and not asked.given.messages:
+        return None
+    if not asked.given.messages:
+        return ports.Wire(asked.line)
+    messages = Messages(pathlib.Path(asked.given.messages), lambda: asked.street.session.taken)
+    messages.places = [(place.address, place.port) for place in map(ports.place_of, asked.sockets)]
+    stack.callback(messages.close)
+
+    def keep(it: Passed) -> None:
+        try:
+            messages.add(it)
+        except OSError as fault:
+            asked.street.fail(fault)
+
+    return ports.Wire(asked.line, keep)
 
 
 async def served(asked: Asked) -> None:
@@ -168,12 +229,14 @@ async def served(asked: Asked) -> None:
     for number in (signal.SIGINT, signal.SIGTERM):
         loop.add_signal_handler(number, street.end)
     async with contextlib.AsyncExitStack() as stack:
-        for transport in await ports.listening(sockets, Fronts(street).datagram if given.front else street.datagram):
+        wire = wire_of(asked, stack)
+        asks: ports.Asked = Fronts(street).datagram if given.front else street.datagram
+        for transport in await ports.listening(sockets, asked.panel.hearing(asks) if asked.panel else asks, wire):
             stack.callback(transport.close)
         tell_places(street, [ports.place_of(port) for port in sockets])
         if asked.panel is not None:
             await asked.panel.open(street, stack)
-        if given.bind:
+        if given.bind and not ipaddress.ip_address(given.bind).is_loopback:
             say(OPEN.format(given.bind))
         stack.push_async_callback(street.close)
         await held(street, asked.requests, given.replay is not None)
@@ -210,9 +273,10 @@ def main(arguments: list[str] | None = None) -> int:
             hearers.append(Recorder(pathlib.Path(given.record)))
         opened = None if given.panel is None else Opened(given)
         street, requests = street_of(given, [*hearers, *(opened.hearers() if opened else ())])
+        line = line_of(pathlib.Path(given.line), len(street.scenario["cabinets"])) if given.line else None
         wanted = ports.places(words.first_place(given), len(street.scenario["cabinets"]), given.addresses is not None)
         with ports.opened(wanted) as sockets:
-            asyncio.run(served(Asked(given, street, requests, sockets, opened)))
+            asyncio.run(served(Asked(given, street, requests, sockets, opened, line)))
         return Status.DONE
     except Fault as fault:
         say(fault)

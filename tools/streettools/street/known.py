@@ -16,6 +16,8 @@ from .session import reply_in
 
 DAY = 86_400
 TICKS_OF_A_DAY = 10 * DAY
+SET_DIGITS = b"%02x" % SET
+"""What every Set has among its digits, and few Gets have."""
 LAST_NUMBER, GAP = (1 << 31) - 1, 100
 
 
@@ -63,7 +65,7 @@ class Downloads:
 
     def heard(self, request: bytes | None, answer: Answer) -> None:
         """Takes a request that was answered."""
-        if request is not None and self.DIGITS in request:
+        if request is not None and SET_DIGITS in request and self.DIGITS in request:
             for cabinet, _, number in taken(request, answer, BEGIN):
                 self.begun(cabinet, number)
 
@@ -106,7 +108,7 @@ class Clocks:
             return
         if request.startswith(b"tick "):
             self.ticks += int(request[5:])
-        elif self.DIGITS in request:
+        elif SET_DIGITS in request and self.DIGITS in request:
             for cabinet, asked, clock in taken(request, answer, CLOCK):
                 self.set(cabinet, asked.number, clock)
 

@@ -4,18 +4,24 @@ import asyncio
 import contextlib
 import functools
 import ipaddress
+import math
 import socket
 from collections.abc import Awaitable, Callable, Iterator
 from dataclasses import dataclass
 from typing import Any, cast
 
+from .line import IN, OUT, Copy, Line, Passed
+
 LOOPBACK = "127.0.0.1"
 WAITING = 64
 """How many datagrams may wait at a port; one that comes then is lost, as on a street."""
+MOST_LATE = 4096
+"""How many datagrams of a street may be late at a time on a bad line; further ones are lost."""
 ROOM = 1 << 20
 """The octets that the system is asked to hold for a port."""
 
-Asked = Callable[[int, bytes, tuple[str, int]], Awaitable[bytes | None]]
+Manager = tuple[str, int]
+Asked = Callable[[int, bytes, Manager], Awaitable[bytes | None]]
 """Returns the reply of a cabinet to a datagram from an address and a port, None where it is silent."""
 
 
@@ -85,12 +91,40 @@ def place_of(port: socket.socket) -> Place:
     return Place(*port.getsockname()[:2])
 
 
+class Wire:
+    """What is between a port and managers: nothing, but for a bad line and a record of messages."""
+
+    def __init__(self, line: Line | None = None, keep: Callable[[Passed], None] | None = None) -> None:
+        self.line, self.keep = line, keep
+        self.waiting = 0
+
+    def passes(self, way: str, cabinet: int, manager: Manager, octets: bytes, arrives: Callable[[bytes], None]) -> None:
+        """Lets a datagram go over the line, and gives what arrives of it."""
+        for copy in self.line.passed(cabinet, way, octets) if self.line else [Copy(0.0, octets, ())]:
+            is_lost = copy.seconds == math.inf or copy.seconds > 0 and self.waiting >= MOST_LATE
+            if self.keep:
+                self.keep(Passed(way, cabinet, manager, copy.octets, copy.words, not is_lost))
+            if is_lost:
+                continue
+            if copy.seconds:
+                self.waiting += 1
+                asyncio.get_running_loop().call_later(copy.seconds, self.comes, copy.octets, arrives)
+            else:
+                arrives(copy.octets)
+
+    def comes(self, octets: bytes, arrives: Callable[[bytes], None]) -> None:
+        """Gives a datagram that was late."""
+        self.waiting -= 1
+        arrives(octets)
+
+
 class Agent(asyncio.DatagramProtocol):
     """The agent of a cabinet."""
 
-    def __init__(self, cabinet: int, asked: Asked) -> None:
+    def __init__(self, cabinet: int, asked: Asked, wire: Wire | None) -> None:
         self.cabinet = cabinet
         self.asked = asked
+        self.wire = wire
         self.tasks: set[asyncio.Task[None]] = set()
         self.transport: asyncio.DatagramTransport
 
@@ -98,6 +132,13 @@ class Agent(asyncio.DatagramProtocol):
         self.transport = cast(asyncio.DatagramTransport, transport)
 
     def datagram_received(self, data: bytes, client: tuple[Any, ...]) -> None:
+        if self.wire is None:
+            self.take(client, data)
+        else:
+            self.wire.passes(IN, self.cabinet, (client[0], client[1]), data, functools.partial(self.take, client))
+
+    def take(self, client: tuple[Any, ...], data: bytes) -> None:
+        """Takes a datagram, unless many wait."""
         if len(self.tasks) < WAITING:
             task = asyncio.create_task(self.answer(data, client))
             self.tasks.add(task)
@@ -108,16 +149,28 @@ class Agent(asyncio.DatagramProtocol):
 
     async def answer(self, data: bytes, client: tuple[Any, ...]) -> None:
         """Answers a datagram where the cabinet does."""
-        reply = await self.asked(self.cabinet, data, (client[0], client[1]))
-        if reply is not None:
+        manager = (client[0], client[1])
+        reply = await self.asked(self.cabinet, data, manager)
+        if reply is None:
+            return
+        if self.wire is None:
+            self.send(client, reply)
+        else:
+            self.wire.passes(OUT, self.cabinet, manager, reply, functools.partial(self.send, client))
+
+    def send(self, client: tuple[Any, ...], reply: bytes) -> None:
+        """Sends a reply, as long as the port is open."""
+        if not self.transport.is_closing():
             self.transport.sendto(reply, client)
 
 
-async def listening(sockets: list[socket.socket], asked: Asked) -> list[asyncio.BaseTransport]:
+async def listening(
+    sockets: list[socket.socket], asked: Asked, wire: Wire | None = None
+) -> list[asyncio.BaseTransport]:
     """Lets the agent of each cabinet answer at its socket."""
     loop = asyncio.get_running_loop()
     made = [
-        await loop.create_datagram_endpoint(functools.partial(Agent, number, asked), sock=sock.dup())
+        await loop.create_datagram_endpoint(functools.partial(Agent, number, asked, wire), sock=sock.dup())
         for number, sock in enumerate(sockets, 1)
     ]
     return [transport for transport, _ in made]

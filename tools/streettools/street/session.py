@@ -13,6 +13,8 @@ from typing import Any, NamedTuple
 from ..shared.program import Died, Late, end_group, live_in_loop, one_line
 from ..shared.session import PIECE, SECONDS, Answer, Answers, Rounds, scenario_line
 
+MOST_OF_A_ROUND = 90_000
+"""How many inputs and messages may be asked in a round before it is ended. The program takes 100,000."""
 MOST = 16
 """How many requests may be without answer at once. A request has at most 2,962 octets, and a pipe holds 65,536."""
 
@@ -55,6 +57,8 @@ class Session:
         self.rounds = Rounds(scenario["ticks"])
         self.queued: collections.deque[Asked] = collections.deque()
         self.waiting: collections.deque[Asked] = collections.deque()
+        self.in_round = 0
+        """How many inputs and messages were asked in the round."""
         self.is_over = self.is_closing = False
         self.process: asyncio.subprocess.Process
         self.asks: asyncio.StreamWriter
@@ -111,6 +115,7 @@ class Session:
 
     async def ask(self, request: bytes) -> Answer:
         """Returns the answer to a request that takes no ticks."""
+        self.in_round += 1
         return await self.send(request, request)
 
     def send_ticks(self, count: int) -> asyncio.Future[Answer]:
@@ -118,7 +123,17 @@ class Session:
         if self.is_over or self.is_closing:
             raise Over
         request = b"tick %d" % self.rounds.next(count)
+        if self.rounds.left == self.rounds.ticks:
+            self.in_round = 0
         return self.send(request, request)
+
+    def make_room(self) -> int:
+        """Ends a round that is almost full of inputs and messages, and returns by how many ticks."""
+        left = self.rounds.left
+        if self.in_round < MOST_OF_A_ROUND or self.is_over or self.is_closing:
+            return 0
+        self.send_all_ticks(left)
+        return left
 
     def send_all_ticks(self, count: int) -> None:
         """Gives requests of ticks without waiting for their answers."""

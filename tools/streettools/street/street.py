@@ -52,6 +52,9 @@ class Hearer:
     def ended(self, died: Died | None) -> None:
         """The session is over, or its program died."""
 
+    def ended_round(self, ticks: int) -> None:
+        """A round was ended by so many ticks, since it was full of messages."""
+
     def due_inputs(self, ticks: int) -> list[bytes]:
         """Returns the inputs that are due when so many ticks were taken, as requests."""
         return []
@@ -73,7 +76,7 @@ class Street:
         """The names of intersections, by their numbers."""
         self.after_message = 0
         """How many ticks go by after each datagram."""
-        self.stops_at_end = False
+        self.stops_at_end = self.is_replaying = False
         self.order = asyncio.Lock()
         self.session: Session
         self.closed: Session | None = None
@@ -118,6 +121,7 @@ class Street:
         """Returns a cabinet's reply to a message; None where it is silent, or where the street begins anew."""
         if len(octets) > LONGEST:
             return None
+        self.make_room()
         try:
             return reply_in(await self.session.ask(frame(cabinet, octets, stream)))
         except Over:
@@ -126,6 +130,7 @@ class Street:
     async def messages(self, cabinet: int, several: list[bytes]) -> list[bytes | None]:
         """Returns a cabinet's replies to messages, between which nothing else comes to it."""
         try:
+            self.session.in_round += len(several)
             under_way = [self.session.send(it, it) for it in (frame(cabinet, octets) for octets in several)]
             return [reply_in(answer) for answer in await asyncio.gather(*under_way)]
         except Over:
@@ -152,8 +157,16 @@ class Street:
             yield
             await self.session.take(self.after_message)
 
+    def make_room(self) -> None:
+        """Ends a round that is almost full, as where time stands and messages come: the program keeps them until their
+        round is over."""
+        if ticks := self.session.make_room():
+            for hearer in self.hearers:
+                hearer.ended_round(ticks)
+
     async def input(self, request: bytes) -> bool:
         """Tells a cabinet of an input from the street; returns whether that was taken."""
+        self.make_room()
         try:
             return not await self.session.ask(request)
         except Over:

@@ -119,6 +119,13 @@ def parser() -> argparse.ArgumentParser:
         "continues",
     )
     words.add_argument(
+        "--line", metavar="FILE", help="a bad line between managers and cabinets, described in TOML (docs/STREET.md)"
+    )
+    words.add_argument(
+        "--messages", metavar="FILE",
+        help="write every message to this file: lines of JSON, or a capture if its name ends in .pcap",
+    )  # fmt: skip
+    words.add_argument(
         "--as", dest="front", choices=["ntcip1202"],
         help="answer more than the proved profile does (docs/SNMP-CONFORMANCE.md)",
     )

@@ -126,6 +126,8 @@ def seeds_of(given: Given) -> tuple[int, ...]:
         return tuple(range(1, seeds + 1))
     if not all(isinstance(it, int) and 0 <= it < 2**32 for it in seeds):
         raise given.refuse("seeds", "has to be a number, or a list of numbers from 0 to 4,294,967,295")
+    if twice := next((it for it in seeds if seeds.count(it) > 1), None):
+        raise given.refuse("seeds", f"has {twice} twice: equal seeds give equal runs")
     return tuple(seeds)
 
 

@@ -1,9 +1,12 @@
 """The environment of learners: what it shows, what its actions do, its numbers against a run by hand, and its ends."""
 
 import gc
+import json
 import os
 import shutil
 import signal
+import subprocess
+import sys
 
 import arterial
 import arterial.env
@@ -82,6 +85,26 @@ def test_the_reward_is_the_time_that_the_queue_model_reports():
     assert sum(row[2]["passed"] for row in rows) == sum(map(len, street.passages))
 
 
+def test_movements_are_those_that_the_command_reports(tmp_path):
+    """`arterial cosim queues` over the same scenario, volumes and seed. The environment commands free operation, in
+    which the cabinets are."""
+    scenario = json.loads(STREET[0].read_text()) | {"cabinets": [{"clock": 252_000}] * 4, "inputs": []}
+    (tmp_path / "free.json").write_text(json.dumps(scenario))
+    words = [TOP / "tools/streettools", "cosim", "queues", STREET[1], "--scenario", tmp_path / "free.json", "--seconds",
+             "300", "--seed", "4", "--json"]  # fmt: skip
+    said = subprocess.run([sys.executable, "-B", *map(str, words)], capture_output=True, text=True, timeout=120)
+    with arterial.env.StreetEnv(scenario, STREET[1], seconds=300) as it:
+        with pytest.raises(arterial.Error, match="no episode"):
+            it.movements()
+        episode(it, lambda seen: [0] * 4, seed=4)
+        found = it.movements()
+    for row, own in zip(json.loads(said.stdout)["movements"], found.itertuples(), strict=True):
+        assert (row["cabinet"], row["movement"], row["vehicles"]) == (own.cabinet, own.movement, own.vehicles)
+        assert row["delay"] == pytest.approx(own.delay_s, nan_ok=True) or row["delay"] is None
+        assert row["queue_greatest"] == own.queue_greatest and row["split_failures"] == own.split_failures
+    assert found.vehicles.sum() > 200
+
+
 def test_rewards_weigh_delay_and_stops_or_are_the_callers_own():
     with env() as a, env(reward="stops") as b, env(reward={"delay": 1, "stops": 10}) as c, env(
         reward=lambda info: info["passed"]
@@ -130,6 +153,33 @@ def test_a_step_may_have_several_samples():
     with env(step_s=5.0, sample_s=0.5) as it:
         rows = episode(it, lambda seen: [0])
     assert len(rows) == 25 and rows[3][2]["time_s"] == 15.0
+
+
+GYMNASIUM = """
+class Env:
+    pass
+
+class spaces:
+    class Box:
+        def __init__(self, *given):
+            self.given = given
+    MultiDiscrete = MultiBinary = Box
+"""
+"""What stands for gymnasium where it isn't installed: its names that the package uses."""
+
+
+def test_gymnasium_is_used_where_it_is_installed(tmp_path):
+    """In a process of its own, since the module is chosen when it is first imported."""
+    (tmp_path / "gymnasium.py").write_text(GYMNASIUM)
+    asked = (
+        "import arterial.env as it, gymnasium; "
+        "env = it.StreetEnv('scenarios/street.json', 'scenarios/street.volumes.toml'); "
+        "print(isinstance(env, gymnasium.Env), env.action_space.given, env.observation_space.given[2])"
+    )
+    names = os.environ | {"PYTHONPATH": f"{tmp_path}:{TOP / 'tools'}"}
+    words = [sys.executable, "-B", "-c", asked]
+    said = subprocess.run(words, cwd=TOP, env=names, capture_output=True, text=True, timeout=60)
+    assert said.stdout == "True ([2, 2, 2, 2],) (4, 3, 16)\n", said.stderr
 
 
 WRONG = [

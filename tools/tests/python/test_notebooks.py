@@ -1,4 +1,8 @@
-"""The notebooks run whole, and print what they show."""
+"""The notebooks run whole, and print what they show. After a change of what they print, in docs/notebooks:
+
+    PYTHONPATH=../../tools python3 -m nbconvert --to notebook --execute --inplace \\
+        --ExecutePreprocessor.record_timing=False *.ipynb
+"""
 
 import importlib.util
 import json

@@ -72,6 +72,12 @@ def test_a_plan_that_cant_be_taken_lists_its_faults():
         arterial.Plan.read("/nowhere/plan.toml")
 
 
+def test_a_plan_is_checked_where_there_is_no_program(monkeypatch):
+    monkeypatch.setenv("ARTERIAL_PROGRAM", "/nowhere/arterial")
+    found = arterial.Plan.read(SHEET).check()
+    assert [it.words for it in found if "bands are not looked at" in it.words] and found[0].level != "error"
+
+
 def test_downloads_bring_one_plan_to_another(program):
     """Offsets of pattern 1: 0 in the old plan, 12 s in the new one."""
     old = arterial.Plan.scenario(ONE)

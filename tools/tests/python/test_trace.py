@@ -1,5 +1,7 @@
 """The tables of a trace, with values worked by hand; slices; texts that are no traces; pictures."""
 
+import subprocess
+
 import arterial
 import matplotlib
 import pytest
@@ -98,6 +100,17 @@ def test_slices_by_time_are_the_rows_of_that_time(street, name):
     assert len(rows) == ((whole.time_s >= 100) & (whole.time_s < 200)).sum() > 0
 
 
+def test_views_share_one_walk_over_the_text(street, monkeypatch):
+    trace = arterial.Trace(street.text)
+    views = [trace.cabinet(number) for number in (1, 2, 3, 4)]
+    assert sum(len(it.greens()) + len(it.events()) for it in views) == len(trace.greens()) + len(trace.events())
+    from arterial import walks
+
+    monkeypatch.setattr(walks, "rows_of", None)
+    monkeypatch.setattr(walks, "events_of", None)
+    assert len(trace.between(0, 60).greens()) and len(views[0].events())
+
+
 def test_greens_that_overlap_a_slice_are_in_it_uncut(car):
     assert car.between(15, 22).greens().start_s.tolist() == [6.0, 6.0, 21.5, 21.5]
     assert car.between(16, 21).greens().empty
@@ -149,6 +162,23 @@ def test_all_traces_of_the_examples_have_tables(program):
         assert not trace.frames().empty
         for table in TABLES:
             getattr(trace, table)()
+
+
+@pytest.mark.parametrize("seed", [1, 2, 3])
+def test_tables_of_generated_scenarios_agree_with_plain_counts_of_lines(program, seed):
+    """Polls, downloads, lost messages and all inputs (docs/SCENARIO.md, "A scenario that is generated")."""
+    words = [program, "generate", "--seed", str(seed), "--cabinets", "3", "--rounds", "120"]
+    trace = arterial.run(subprocess.run(words, capture_output=True, check=True).stdout, program=program)
+    lines = [it.split() for it in trace.text.decode().splitlines()]
+    counts = {letter: sum(it[0] == letter for it in lines) for letter in "FLM"}
+    assert (len(trace.frames()), len(trace.downloads()), len(trace.notes())) == tuple(counts.values())
+    begun, before = 0, {str(number): "R" * 16 for number in (1, 2, 3)}
+    for _, cabinet, _, shown, *_ in (it for it in lines if it[0] == "F"):
+        begun += sum(now == "G" != was for was, now in zip(before[cabinet], shown))
+        before[cabinet] = shown
+    assert len(trace.greens()) == begun > 10
+    events = trace.events()
+    assert (events.event == 1).sum() == begun
 
 
 def test_greens_are_counted_as_the_report_counts_them(street):

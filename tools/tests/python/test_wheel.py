@@ -11,6 +11,7 @@ import tomllib
 import zipfile
 
 import pytest
+from streettools.shared.version import VERSION
 
 from ..launch.conftest import proved, tried  # noqa: F401
 from .conftest import TOP
@@ -39,7 +40,7 @@ def whole(proved):  # noqa: F811
 
 def test_the_wheel_of_a_proved_checkout_has_the_program_and_its_record(whole, tmp_path):
     name = backend_of(whole).build_wheel(str(tmp_path))
-    assert name.startswith("arterial-0.8-py3-none-linux_")
+    assert name.startswith(f"arterial-{VERSION}-py3-none-linux_")
     with zipfile.ZipFile(tmp_path / name) as wheel:
         names = wheel.namelist()
         program = wheel.getinfo("arterial/data/program/arterial")
@@ -62,7 +63,7 @@ def test_the_wheel_of_a_proved_checkout_has_the_program_and_its_record(whole, tm
 def test_the_wheel_of_an_unproved_checkout_has_no_program_and_is_for_any_machine(whole, tmp_path):
     (whole / "crates/io_edge/src/lib.rt").write_text("// another\n")
     name = backend_of(whole).build_wheel(str(tmp_path))
-    assert name == "arterial-0.8-py3-none-any.whl"
+    assert name == f"arterial-{VERSION}-py3-none-any.whl"
     with zipfile.ZipFile(tmp_path / name) as wheel:
         assert not any("/program/" in it or "/proof/" in it for it in wheel.namelist())
         wheel.extractall(tmp_path / "site")
@@ -77,7 +78,7 @@ def test_the_wheel_of_a_source_archive_is_the_same(whole, tmp_path):
     backend = backend_of(whole)
     with tarfile.open(tmp_path / backend.build_sdist(str(tmp_path))) as archive:
         archive.extractall(tmp_path / "made")
-    again = backend_of(tmp_path / "made/arterial-0.8")
+    again = backend_of(tmp_path / f"made/arterial-{VERSION}")
     names = []
     for it, place in ((backend, "one"), (again, "other")):
         (tmp_path / place).mkdir()

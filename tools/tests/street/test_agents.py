@@ -1,5 +1,6 @@
 """Each cabinet of a street answers at its own port what a run answers, whatever comes, until the street is to end."""
 
+import asyncio
 import json
 import random
 import signal
@@ -11,6 +12,9 @@ import time
 import pytest
 from streettools.cabinet.messages import GET, SET, message, reply_of
 from streettools.shared.program import trace_of
+from streettools.street import session
+from streettools.street.pace import Pace
+from streettools.street.street import Hearer, Street
 
 from .conftest import CLOCK, CONTROL, COUNTER, PROGRAM, SECONDS, TOP, VERSION, free_ports
 
@@ -190,3 +194,24 @@ def test_a_program_that_dies_ends_it_with_its_status_and_its_line(street, tmp_pa
     assert running.said[-1] == "street: out of memory"
     ran = subprocess.run([PROGRAM, "check"], stdin=(tmp_path / "kept.trace").open("rb"), capture_output=True)
     assert (ran.returncode, ran.stderr) == (0, b"")
+
+
+def test_a_street_whose_time_stands_answers_for_ever(monkeypatch):
+    """A round takes 100,000 messages and inputs. Before that it is ended; here at 50, by the 5 ticks of a round."""
+    monkeypatch.setattr(session, "MOST_OF_A_ROUND", 50)
+    told = []
+
+    class Hears(Hearer):
+        def ended_round(self, ticks):
+            told.append(ticks)
+
+    async def clocks():
+        made = Street(str(PROGRAM), TWO, Pace(0.0), [Hears()])
+        await made.open()
+        try:
+            return [value_in(await made.datagram(1, get(number, CLOCK))) for number in range(120)]
+        finally:
+            await made.close()
+
+    assert asyncio.run(clocks()) == [100] * 50 + [105] * 50 + [110] * 20
+    assert told == [5, 5]

@@ -252,6 +252,30 @@ def test_inputs_of_the_panel_and_of_management_software_are_the_same(street, tmp
     assert ber.number_of(read(running, name).content) == 0
 
 
+def test_the_panel_shows_the_messages_that_were_sent_and_no_others(street, tmp_path):
+    aiohttp = pytest.importorskip("aiohttp")
+    words = ("--addresses", "127.0.1.1+", "--ports", 30_000 + os.getpid() % 9000, "--as", "ntcip1202", "--panel", 0)
+    running = street("--scenario", written(tmp_path, TRAIN), *words)
+    feed, headers = feed_of(running.told(r"panel at (http://\S+)")[1])
+    asked = [of(snmp.GET, 1, bound(f"{ASC}.1.1.0")), of(snmp.BULK, 2, bound(f"{ASC}.1.2.1.4"), second=2),
+             of(snmp.SET, 3, bound(CREATE, 2, b"\2")), of(snmp.GET, 4, bound(oids.CLOCK), version=snmp.V1)]  # fmt: skip
+
+    async def shown():
+        rows = []
+        async with aiohttp.ClientSession() as session, session.ws_connect(feed, headers=headers) as page:
+            await page.receive_json()
+            for it in asked:
+                await asyncio.to_thread(raw, running, it)
+            while not any("cabinetClock" in row[2] for row in rows):
+                rows += (await page.receive_json()).get("messages", ())
+        return rows
+
+    rows = asyncio.run(asyncio.wait_for(shown(), SECONDS))
+    assert [row[1] for row in rows] == [1] * 4
+    assert [row[2].split(" ")[0] for row in rows] == ["Get", "GetBulk", "Set", "Get"]
+    assert rows[1][3] == "phaseMinimumGreen.1 = 5, phaseMinimumGreen.2 = 10"
+
+
 def test_an_input_that_the_street_refuses_is_an_error():
     async def refuses(request):
         return False

@@ -353,8 +353,8 @@ def busy():
     panel.street = Street("none", scenario, Pace(1), [])
     state.began(panel.street.scenario)
     with Calls() as calls:
-        for number in range(260):
-            state.heard(b"frame 1 priority " + LONG.hex().encode(), [b"A 1 %d -" % number])
+        for _ in range(260):
+            state.exchanged(1, LONG, None)
     for tick in range(0, 12_000, 100):
         for number in range(1, 65):
             lamps = "".join("G" if (tick // 100 + place) % 4 else "R" for place in range(16))

@@ -4,11 +4,12 @@ import argparse
 import pathlib
 import sys
 from collections.abc import Callable
+from typing import Any
 
 from ...shared.commandline import Parser, add_json, add_output, add_program, number
 from ...shared.fault import Fault
 from ...shared.program import answering
-from ...shared.saying import say
+from ...shared.saying import say, say_replaced
 from ...shared.status import Status
 from .. import report
 from . import keeping
@@ -51,6 +52,8 @@ def parser() -> argparse.ArgumentParser:
     words.add_argument(
         "--seed", type=number(0, 4_294_967_295), default=1, metavar="N", help="the seed of random arrivals (default: 1)"
     )
+    words.add_argument("--policy", type=pathlib.Path, metavar="FILE",
+                       help="a Python file whose function step(street) drives the cabinets")  # fmt: skip
     words.add_argument(
         "--keep-inputs", action="store_true", help="keep the scenario's inputs of detectors and push buttons"
     )
@@ -70,6 +73,16 @@ def asked_of(words: argparse.Namespace, seconds: float) -> Asked:
     return Asked(seconds, step, words.seed, words.warm, words.keep_inputs, words.output is not None)
 
 
+def maker_of(path: pathlib.Path | None, scenario: dict[str, Any]) -> queue_study.Makes | None:
+    """Returns what makes a policy of a street, None where there is no policy."""
+    if path is None:
+        return None
+    from .. import policies
+
+    cabinets, community, file = len(scenario["cabinets"]), scenario.get("community", "public"), path
+    return lambda street: policies.Policy(file, policies.Street(cabinets, street.waiting, community))
+
+
 def ran(words: argparse.Namespace) -> tuple[Ran, Street]:
     """Runs what the words ask for; returns what came of it, and the street."""
     from ...shared.progress import bar
@@ -80,7 +93,8 @@ def ran(words: argparse.Namespace) -> tuple[Ran, Street]:
     shown = bar(round(asked.seconds * 10) // asked.step, "step")
     advance: Callable[[int], None] = (lambda step: None) if shown is None else lambda step: shown.update(1)
     try:
-        return queue_study.run(program, fitted(volumes, street), street.scenario, asked, advance), street
+        made = maker_of(words.policy, street.scenario)
+        return queue_study.run(program, fitted(volumes, street), street.scenario, asked, advance, made), street
     finally:
         if shown is not None:
             shown.close()
@@ -93,6 +107,7 @@ def does(words: argparse.Namespace) -> int:
     study = queue_study.study_of(came, folder / TRACE)
     value = keeping.value_of(came, study, street)
     if came.trace is not None:
+        say_replaced("cosim", study.trace)
         keeping.write(folder, came, study, street)
     sys.stdout.write(report.json_text(value) if words.json else report.text(value))
     sys.stdout.flush()

@@ -3,6 +3,7 @@
 import heapq
 from collections.abc import Callable, Iterable
 from dataclasses import dataclass
+from typing import Protocol
 
 from .demand import Demand
 from .detectors import PhaseDetectors
@@ -17,6 +18,16 @@ Reached = tuple[float, int, int]
 """When a vehicle reaches a stop line if nothing holds it, the place of the movement, the vehicle's number."""
 Passages = list[list[tuple[float, float]]]
 """For each vehicle the stop lines that it has passed: when it reached each, when it passed it."""
+
+
+class Acts(Protocol):
+    """What acts on the cabinets of a street (`policies.Policy`)."""
+
+    def heard(self, lines: list[bytes]) -> None:
+        """Takes what cabinets show."""
+
+    def requests(self, second: float, before: list[bytes]) -> list[bytes]:
+        """Returns what it asks of the cabinets at a second, after other requests."""
 
 
 @dataclass
@@ -43,6 +54,7 @@ class Street:
         self.flows, self.demand, self.steps = volumes.flows, demand, steps
         self.size = steps.ticks / 10
         self.lines = [StopLine(it.lanes, it.saturation) for it in self.flows]
+        self.places = {(it.cabinet, it.name): place for place, it in enumerate(self.flows)}
         self.passages: Passages = [[] for _ in demand.vehicles]
         self.reached: list[list[Reached]] = [[] for _ in range(steps.count + 1)]
         self.passing: list[list[tuple[float, int]]] = [[] for _ in range(steps.count + 1)]
@@ -80,11 +92,25 @@ class Street:
             over = max(at - ahead, 0.0)
             self.passing[max(self.steps.place(over), now)].append((over, place))
 
-    def run(self, cabinets: Cabinets, signals: Signals, advance: Callable[[int], None]) -> None:
-        """Runs all steps; `advance` is told each of them."""
+    def waiting(self, cabinet: int, movement: str) -> int:
+        """Returns how many vehicles wait at a movement."""
+        return len(self.lines[self.places[cabinet, movement]].queue)
+
+    def run(
+        self, cabinets: Cabinets, signals: Signals, advance: Callable[[int], None], policy: Acts | None = None
+    ) -> None:
+        """Runs all steps; `advance` is told each of them, a policy may act before each."""
         signals.shown(cabinets.shown)
+        if policy is not None:
+            policy.heard(cabinets.shown)
         for step in range(self.steps.count):
-            self.follow(step, signals.shown(cabinets.step(self.requests(step), self.steps.ticks)))
+            requests = self.requests(step)
+            if policy is not None:
+                requests += policy.requests(round(step * self.size, 1), requests)
+            lines = cabinets.step(requests, self.steps.ticks)
+            if policy is not None:
+                policy.heard(lines)
+            self.follow(step, signals.shown(lines))
             advance(step)
 
     def requests(self, step: int) -> list[bytes]:

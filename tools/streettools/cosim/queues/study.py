@@ -11,7 +11,7 @@ from . import checks
 from .demand import Demand, demand_of
 from .session import Cabinets, scenario_of
 from .signals import Signals
-from .street import Steps, Street
+from .street import Acts, Steps, Street
 from .volumes import Flow, Volumes
 from .yielding import gives_way
 from ..records import Kind, Movement, Passage, Study, Trip, queue_samples
@@ -77,14 +77,25 @@ Advance = Callable[[int], None]
 """Is told each step that is done."""
 
 
-def run(program: str, volumes: Volumes, scenario: dict[str, Any], asked: Asked, advance: Advance) -> Ran:
-    """Runs the street."""
+Makes = Callable[[Street], Acts]
+"""Makes a policy of a street."""
+
+
+def run(
+    program: str,
+    volumes: Volumes,
+    scenario: dict[str, Any],
+    asked: Asked,
+    advance: Advance,
+    makes: Makes | None = None,
+) -> Ran:
+    """Runs the street, with a policy if one is to be made."""
     checks.check(volumes, scenario, asked.seconds)
     given, steps = session_of(scenario, asked)
     demand = demand_of(volumes, asked.seed, checks.starts_at(scenario), asked.seconds)
     street, signals = Street(volumes, demand, steps), Signals(len(scenario["cabinets"]))
     with Cabinets(program, given, asked.keeps_trace) as cabinets:
-        street.run(cabinets, signals, advance)
+        street.run(cabinets, signals, advance, makes(street) if makes else None)
         cabinets.close()
     signals.close(steps.seconds)
     trace = cabinets.trace() if asked.keeps_trace else None

@@ -81,6 +81,7 @@ class Panel(Hearer):
     def begin(self, street: Street) -> None:
         """Begins to feed the pages of a street; a task that fails ends it."""
         self.street = street
+        self.shown.is_replaying = lambda: street.is_replaying
         self.tasks = [asyncio.create_task(it()) for it in (self.news, self.details, self.greens, self.tables)]
         for task in self.tasks:
             task.add_done_callback(self.is_over)
@@ -178,12 +179,7 @@ class Panel(Hearer):
     async def got(self, cabinet: int, names: list[in_force.Name]) -> bytes | None:
         """Returns a cabinet's reply to a Get of the panel's own; None where it is silent."""
         octets = message(GET, 1, [(name, None) for name in names], self.street.community())
-        request = b"frame %d priority %b" % (cabinet, octets.hex().encode())
-        self.shown.own.add(request)
-        try:
-            return await self.street.message(cabinet, octets)
-        finally:
-            self.shown.own.discard(request)
+        return await self.street.message(cabinet, octets)
 
     async def tables(self) -> None:
         """Lays cabinets out anew that have other tables in force, and tells pages."""

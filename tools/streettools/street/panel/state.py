@@ -3,11 +3,13 @@
 import asyncio
 import collections
 import json
+from collections.abc import Callable
 from dataclasses import dataclass, field
 from typing import Any
 
 from ...shared.program import Died
-from ...shared.session import Answer
+from ...shared.session import Answer, refusal
+from ..session import reply_in
 from ..street import Hearer
 from .layout import street_facts
 from .names import answered_text, asked_text
@@ -93,11 +95,11 @@ class PanelState(Hearer):
         self.ticks = self.round = self.change = self.sessions = 0
         self.notes: collections.deque[tuple[int, int, str]] = collections.deque(maxlen=KEPT_LINES)
         self.messages: collections.deque[tuple[int, list[Any]]] = collections.deque(maxlen=KEPT_LINES)
-        self.asked: collections.deque[tuple[int, bytes, bytes]] = collections.deque(maxlen=KEPT_LINES)
-        """Messages that aren't in words yet: the tick, the request, and the line of the reply."""
+        self.asked: collections.deque[tuple[int, int, bytes, bytes | None]] = collections.deque(maxlen=KEPT_LINES)
+        """Messages that aren't in words yet: the tick, the cabinet, the octets of the message and of the reply."""
         self.ending: str | None = None
-        self.own: set[bytes] = set()
-        """Requests of the panel's own that are under way: they aren't shown as messages."""
+        self.is_replaying: Callable[[], bool] = lambda: False
+        """Tells whether a record is replayed, whose messages are shown."""
 
     def began(self, scenario: dict[str, Any]) -> None:
         self.sessions += 1
@@ -108,11 +110,15 @@ class PanelState(Hearer):
     def heard(self, request: bytes | None, answer: Answer) -> None:
         if request is not None and request.startswith(b"tick "):
             self.ticks += int(request[5:])
-        elif request is not None and request.startswith(b"frame ") and request not in self.own:
-            if not answer_refuses(answer):
-                self.asked.append((self.ticks, request, answer[-1]))
+        elif request is not None and request.startswith(b"frame ") and self.is_replaying() and not refusal(answer):
+            _, cabinet, _, digits = request.split(b" ")
+            self.exchanged(int(cabinet), bytes.fromhex(digits.decode("ascii")), reply_in(answer))
         for line in answer:
             self.take(line.decode("ascii"))
+
+    def exchanged(self, cabinet: int, octets: bytes, reply: bytes | None) -> None:
+        """Takes what management software has asked and was answered."""
+        self.asked.append((self.ticks, cabinet, octets, reply))
 
     async def put_in_words(self) -> None:
         """Puts the messages that came into words, one after another: whatever else is to be done goes before the
@@ -168,14 +174,6 @@ class PanelState(Hearer):
         return "{" + ",".join(parts) + "}"
 
 
-def answer_refuses(answer: Answer) -> bool:
-    """Tells whether a request couldn't be taken."""
-    return bool(answer) and answer[0].startswith(b"? ")
-
-
-def message_row(tick: int, request: bytes, answer: bytes) -> list[Any]:
+def message_row(tick: int, cabinet: int, octets: bytes, reply: bytes | None) -> list[Any]:
     """Returns a message in words: tick, cabinet, what was asked, what was answered."""
-    _, cabinet, _, digits = request.decode("ascii").split(" ")
-    reply = answer.rsplit(b" ", 1)[1].decode("ascii")
-    replied = answered_text(None if reply == "-" else bytes.fromhex(reply))
-    return [tick, int(cabinet), asked_text(bytes.fromhex(digits)), replied]
+    return [tick, cabinet, asked_text(octets), answered_text(reply)]
