@@ -194,6 +194,8 @@ def test_messages_of_management_software_are_told_by_their_names(panel, browser)
 
 SHEET = """
 title = "Elm Street"
+[master]
+clock = 07:00:00
 [[intersection]]
 name = "Elm & Oak"
 travel = 22.5
@@ -208,13 +210,14 @@ name = "Elm & 2nd"
 """
 
 
-def test_a_street_of_a_sheet_has_its_names_enabled_phases_and_times_of_travel(street, browser, tmp_path):
+def test_a_street_of_a_sheet_has_its_names_enabled_phases_and_times(street, browser, tmp_path):
     """Phase 8 is entered by the sheet: it is named as what it is. Of the standard table 9 to 16 aren't enabled. The
     first intersection is drawn at the foot."""
     (tmp_path / "elm.toml").write_text(SHEET)
     running = street("--ports", 0, "--panel", 0, "--scenario", tmp_path / "elm.toml", "--speed", 5)
     browser.get(running.told(r"panel at (http://\S+)")[1])
     assert "Elm & Oak (cabinet 1)" in awaited(browser, "cards", "Elm & Oak")
+    awaited(browser, "time", r"^07:0\d:")
     values = "return [...document.querySelectorAll('#travel label')].map((it) => [it.innerText, it.lastChild.value])"
     links = [(name.strip(), value) for name, value in browser.execute_script(values)]
     assert links == [("Elm & Oak to Elm & 1st (s)", "22.5"), ("Elm & 1st to Elm & 2nd (s)", "18")]

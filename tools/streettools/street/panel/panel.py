@@ -121,8 +121,17 @@ class Panel(Hearer):
 
     def head(self) -> dict[str, Any]:
         """Returns what a page is told as it opens."""
-        laid = {"facts": self.shown.facts, "names": self.names, "ticks": self.shown.scenario["ticks"]}
-        return {**laid, "all": True, **self.shown.news(0)}
+        called = {"names": self.names, "start": self.start()}
+        laid = {"facts": self.shown.facts, "ticks": self.shown.scenario["ticks"]}
+        return {**laid, **called, "all": True, **self.shown.news(0)}
+
+    def start(self) -> int:
+        """Returns the ticks since midnight at which a street with names starts; 0 for another, whose times are those
+        since the start."""
+        scenario = self.shown.scenario
+        if not any(self.names.get("cabinets", ())):
+            return 0
+        return int(scenario.get("master", {}).get("clock") or scenario["cabinets"][0].get("clock", 0))
 
     def state(self) -> dict[str, Any]:
         """Returns what every text tells: the speed, the switches, the streams, and how the street ended."""

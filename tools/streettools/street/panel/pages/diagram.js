@@ -55,6 +55,10 @@ function drawBands(svg, known, name, ring, order, x) {
     .attr("points", (it) => bandPoints(it, order, away, x));
 }
 
+function tickText(tick) {
+  return known.names.start ? moment(tick).slice(0, 8) : `${Math.round(tick / 10)} s`;
+}
+
 function drawDiagram(known) {
   if (typeof d3 === "undefined" || !known.facts.length) return;
   const ticks = 600 * Math.max(1, Number(document.getElementById("minutes").value) || 5);
@@ -77,5 +81,5 @@ function drawDiagram(known) {
   drawBands(svg, known, "in", 1, [...rows].reverse(), x);
   const axis = svg.selectAll("g.axis").data([0]).join("g").attr("class", "axis");
   axis.attr("transform", `translate(0,${height - 26})`);
-  axis.call(d3.axisBottom(x).ticks(Math.floor(width / LABEL)).tickFormat((it) => `${Math.round(it / 10)} s`));
+  axis.call(d3.axisBottom(x).ticks(Math.floor(width / LABEL)).tickFormat(tickText));
 }

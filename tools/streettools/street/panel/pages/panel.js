@@ -32,6 +32,11 @@ function clock(ticks) {
   return parts.map((it) => String(it).padStart(2, "0")).join(":") + "." + (ticks % 10);
 }
 
+// The time of a tick: of the day, if the street has a name and a clock, else since the start.
+function moment(tick) {
+  return clock(((known.names.start || 0) + tick) % 864000);
+}
+
 function modeText(mode) {
   const number = (mode.match(/\d+/) || [""])[0];
   const words = { S: "start-up", F: "free", X: "flash", E: "on the way to flash" };
@@ -53,7 +58,7 @@ function shownOf(row) {
 function take(told) {
   if (told.facts) {
     known.facts = told.facts;
-    known.names = told.names || {};
+    known.names = { ...told.names, start: told.start };
     build();
   }
   if (told.laid) {
@@ -87,14 +92,14 @@ function clearLists() {
 
 function addNote([tick, text]) {
   const list = by("notes");
-  list.prepend(made("li", "", `${clock(tick)} ${text}`));
+  list.prepend(made("li", "", `${moment(tick)} ${text}`));
   while (list.children.length > KEPT) list.lastChild.remove();
 }
 
 function addMessage([tick, cabinet, asked, answered]) {
   const body = by("messages").tBodies[0];
   const row = made("tr");
-  for (const text of [clock(tick), cabinet, asked, answered]) row.append(made("td", "", text));
+  for (const text of [moment(tick), cabinet, asked, answered]) row.append(made("td", "", text));
   body.prepend(row);
   while (body.children.length > KEPT) body.lastChild.remove();
 }
@@ -393,7 +398,7 @@ function build() {
 }
 
 function show() {
-  put(by("time"), clock(known.now));
+  put(by("time"), moment(known.now));
   if (viewed) showCabinet();
   else known.facts.forEach(showCard);
 }
