@@ -130,7 +130,7 @@ def test_what_is_not_run_is_there():
 def test_a_command_is_found_with_what_it_prints():
     """The tutorial shows `a trace` after its check."""
     check = next(it for it in pages.commands(pathlib.Path("docs/TUTORIAL.md")) if "&& echo" in it.text)
-    assert (check.text, check.printed) == ("./arterial check trace && echo a trace", ["a trace"])
+    assert (check.text, check.printed) == ("./arterial check river-road.trace && echo a trace", ["a trace"])
 
 
 @pytest.mark.parametrize(
