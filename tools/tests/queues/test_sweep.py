@@ -136,3 +136,5 @@ def test_a_study_of_a_timing_sheet_takes_from_it_what_the_volumes_leave_out(prog
     rows = [dict(zip(study.names()[1:], study.line(it, study.runner(False, 600).row(study.variants.at(it)))[1:]))
             for it in (0, 1)]  # fmt: skip
     assert all(it["outcome"] == "done" and it["vehicles"] > 5 for it in rows), rows
+    bands = prepared(given | {"vary": vary, "street": {}, "measures": ["band_outbound"]}, files, program)
+    assert bands.builder.built(bands.variants.at(0)).street.travel == (120,)
