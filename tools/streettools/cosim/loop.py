@@ -13,8 +13,8 @@ from typing import Any
 
 from ..shared.fault import Fault
 from ..shared.session import LISTS
+from ..shared.session_record import Room
 from ..shared.status import Status
-from ..street.record import Room
 from .checks import yielding_in
 from .detectors import Areas, Detectors
 from .discharge import Crossings
