@@ -27,21 +27,22 @@ CONTROLLERS = (CABINETS, *yardsticks.MAKERS, yardsticks.STATIC)
 @dataclass(frozen=True)
 class Plan:
     """A plan that is compared: its name, its scenario (offsets in seconds put into the pattern in command, where they
-    are given), who switches the signals, whether buses ask for priority."""
+    are given), who switches the signals, whether buses ask for priority; SUMO's configuration and the map, those of the
+    comparison or its own."""
 
     name: str
     scenario: pathlib.Path
     offsets: tuple[int, ...]
     controller: str
     priority: bool
+    config: pathlib.Path
+    map: pathlib.Path
 
 
 @dataclass(frozen=True)
 class Comparison:
     """A whole comparison; `against` is the plan with which the others are compared."""
 
-    config: pathlib.Path
-    map: pathlib.Path
     seeds: tuple[int, ...]
     step: float
     seconds: float
@@ -85,7 +86,11 @@ def read_comparison(path: pathlib.Path) -> Comparison:
             row.numbers("offsets", 255),
             controller,
             row.take("priority", bool, True),
+            folder / row.take("sumo", str, config),
+            folder / row.take("map", str, street),
         )
+
+    config, street = given.need("sumo", str), given.need("map", str)
 
     seeds = given.numbers("seeds") or (1, 2, 3)
     plans = given.each("plan", plan_of)
@@ -100,8 +105,6 @@ def read_comparison(path: pathlib.Path) -> Comparison:
     if len(set(seeds)) < len(seeds):
         raise given.refuse("seeds", "has one twice")
     found_one = Comparison(
-        folder / given.need("sumo", str),
-        folder / given.need("map", str),
         seeds,
         float(step),
         given.within("seconds", NUMBER, 1, 86_400, 3600),
@@ -116,14 +119,18 @@ def read_comparison(path: pathlib.Path) -> Comparison:
     return found_one
 
 
+def has_walks(plan: Plan) -> bool:
+    """Tells whether persons walk over crossings with signals under a plan."""
+    walks = any(it.walk for signal in read_map(plan.map).signals for it in signal.movements)
+    return walks and read_config(plan.config).has_persons()
+
+
 def without_walks(comparison: Comparison) -> tuple[Comparison, list[str]]:
     """Returns a comparison without the plans of SUMO's NEMA and actuated controllers where persons walk over crossings
     with signals, and the names of those plans: these controllers have no walk times, so a crossing would stay open all
     green and hold the vehicles that turn."""
-    street = read_map(comparison.map)
-    walks = any(it.walk for signal in street.signals for it in signal.movements)
-    left = [it.name for it in comparison.plans if it.controller in yardsticks.MAKERS]
-    if not left or not walks or not read_config(comparison.config).has_persons():
+    left = [it.name for it in comparison.plans if it.controller in yardsticks.MAKERS and has_walks(it)]
+    if not left:
         return comparison, []
     plans = tuple(it for it in comparison.plans if it.name not in left)
     if len(plans) < 2 or comparison.against in left:
@@ -152,10 +159,10 @@ def scenario_of(plan: Plan) -> dict[str, Any]:
 
 def given_of(comparison: Comparison, plan: Plan, seed: int | None) -> RunGiven:
     """Reads all files of a run."""
-    config = read_config(comparison.config)
+    config = read_config(plan.config)
     return RunGiven(
         config,
-        read_map(comparison.map),
+        read_map(plan.map),
         network.read(config.network),
         scenario_of(plan),
         comparison.step,
