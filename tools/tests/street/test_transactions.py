@@ -183,8 +183,11 @@ async def lived(world, places, moves):
             sender, octets = world.late.pop(which % len(world.late))
             await world.ask(sender.place, octets)
         await asyncio.gather(*(it.move(fate, cells) for it in actors.get(who, ())))
-        if who == "session" and which == 0:
+        if who == "session" and which == 1:
+            await world.street.change()
+        if who == "session" and which <= 1:
             await world.street.renewed()
+        if who == "session" and which == 0:
             world.in_force.clear()
         await world.look()
         for central in (first, second):
@@ -395,6 +398,18 @@ def test_a_transaction_does_not_outlive_its_session():
         assert [await it.go_to(ONE, NORMAL), *await it.read(FIRST, oids.TRANSACTION)] == [GEN_ERR, 40, NORMAL]
         assert await it.gathered(ONE, 42) == [0, 0, 0]
         assert [await it.go_to(ONE, NORMAL), *await it.read(FIRST)] == [0, 42]
+
+    talk(talked)
+
+
+def test_tables_in_force_are_carried_over_and_a_transaction_is_not():
+    async def talked(it):
+        assert [*await it.gathered(ONE, 39), await it.go_to(ONE, NORMAL, 5000)] == [0] * 4
+        assert await it.gathered(TWO, 41) == [0, 0, 0]
+        await it.world.street.change()
+        await it.world.street.renewed()
+        assert [await it.go_to(ONE, NORMAL, 5000), await it.go_to(ONE, NORMAL), *await it.read(FIRST)] == [0, 0, 39]
+        assert [await it.go_to(TWO, NORMAL), *await it.read(FIRST)] == [GEN_ERR, 39]
 
     talk(talked)
 
