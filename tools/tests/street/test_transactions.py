@@ -339,6 +339,22 @@ def test_copies_of_steps_are_answered_as_their_first_and_do_nothing():
     talk(talked)
 
 
+def test_the_set_id_changes_with_the_tables():
+    name = (*oids.GLOBAL, 1, 1, 0)
+
+    async def talked(it):
+        seen = [*await it.read(name), *await it.read(name)]
+        await it.gathered(ONE, 41)
+        seen += await it.read(name)
+        await it.go_to(ONE, NORMAL)
+        seen += await it.read(name)
+        await it.world.street.renewed()
+        seen += await it.read(name)
+        assert seen[0] == seen[1] == seen[2] and len(set(seen)) == 3
+
+    talk(talked)
+
+
 def test_cells_that_wait_are_discarded_by_normal_only():
     async def talked(it):
         await it.go_to(ONE, TRANSACTION, 5000)
