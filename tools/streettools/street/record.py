@@ -1,7 +1,7 @@
 """Records of a street: the trace of each session, and its requests, by which the street can be had again.
 
 The trace stands at the named path when the session is over, the requests beside it while it runs. Reads are left out
-of both, since they change nothing.
+of both, since they change nothing. Only their owner can read them.
 """
 
 import errno
@@ -49,7 +49,7 @@ class Requests:
             raise IsADirectoryError(errno.EISDIR, "Is a directory", str(path))
         if os.path.lexists(path):
             path.replace(path.with_name(f"{path.name}~"))
-        self.file = os.open(path, os.O_WRONLY | os.O_CREAT | os.O_EXCL | os.O_NOFOLLOW | os.O_CLOEXEC, 0o666)
+        self.file = os.open(path, os.O_WRONLY | os.O_CREAT | os.O_EXCL | os.O_NOFOLLOW | os.O_CLOEXEC, 0o600)
         self.end = 0
         self.waiting = b""
 
@@ -125,5 +125,5 @@ class Recorder(Hearer):
             self.record.cut()
         if self.record.number < 1:
             return
-        with files.whole(self.trace_path()) as name, open(name, "wb") as out:
+        with files.whole(self.trace_path(), is_private=True) as name, open(name, "wb") as out:
             out.writelines(self.record.trace())

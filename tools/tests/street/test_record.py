@@ -41,6 +41,8 @@ def test_a_record_is_a_trace_with_every_set_and_no_read(street, tmp_path):
     trace = recorded(street, tmp_path / "session.trace")
     assert checked(tmp_path / "session.trace") == (0, b"")
     assert broken_promises(trace) == []
+    files = (tmp_path / "session.trace", tmp_path / "session.dialogue")
+    assert [it.stat().st_mode & 0o777 for it in files] == [0o600, 0o600]
     scenario = json.loads(trace.split(b"\n", 1)[0][2:])
     assert [item["hex"] for item in scenario["frames"]] == [set_clock(n, 1000 * n).hex() for n in range(3, 30, 3)]
     assert trace.count(b"\nA ") == 9
