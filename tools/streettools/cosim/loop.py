@@ -222,6 +222,12 @@ def types_of(sumo: Any) -> dict[str, tuple[str, float]]:
     return {it: (types.getVehicleClass(it), types.getMaxSpeed(it)) for it in types.getIDList()}
 
 
+def pending_in(sumo: Any) -> dict[str, list[str]]:
+    """Returns the routes of the vehicles that wait to get into the network."""
+    names = sumo.simulation.getPendingVehicles()
+    return {it: list(sumo.vehicle.getRoute(it)) for it in names}
+
+
 def built_areas(street: Map, network: Network, out: pathlib.Path) -> tuple[Areas, tuple[pathlib.Path, ...]]:
     """Returns the detectors that the tool builds, and the files that have them."""
     areas = Areas(street, network)
