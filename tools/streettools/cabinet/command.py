@@ -14,11 +14,10 @@ from ..shared.commandline import Parser, add_program, add_renamed, number
 from ..shared.fault import Fault
 from ..shared.program import Died, NoProgram, answering, trace_of
 from ..shared.session import Answer
-from ..shared.session_record import SessionRecord
+from ..shared.session_record import MOST_FRAMES, MOST_SCENARIO, SessionRecord
 from ..shared.status import Status
 from ..street import ports
 from ..street.pace import Pace
-from ..street.record import MOST_FRAMES, MOST_SCENARIO
 from ..street.street import Hearer, Street, rounds_for
 from .alone import alone, compact, with_all
 

@@ -23,7 +23,8 @@ CONTROLLERS = (CABINETS, *yardsticks.MAKERS, yardsticks.STATIC)
 @dataclass(frozen=True)
 class Plan:
     """A plan that is compared: its name, its scenario (offsets in seconds put into a pattern, or into the one in
-    command, where they are given), who switches the signals, whether buses ask for priority."""
+    command, where they are given), who switches the signals, whether buses ask for priority; SUMO's configuration and
+    the map, those of the comparison or its own."""
 
     name: str
     scenario: pathlib.Path
@@ -31,14 +32,14 @@ class Plan:
     pattern: int | None
     controller: str
     priority: bool
+    config: pathlib.Path
+    map: pathlib.Path
 
 
 @dataclass(frozen=True)
 class Comparison:
-    """A whole comparison: SUMO's files, the plans, and on what terms they are compared."""
+    """A whole comparison: the plans, and on what terms they are compared."""
 
-    config: pathlib.Path
-    map: pathlib.Path
     plans: tuple[Plan, ...]
     terms: Terms
 
@@ -70,11 +71,13 @@ def of(given: Given, folder: pathlib.Path) -> Comparison:
             row.within("pattern", int, 1, 48),
             controller,
             row.take("priority", bool, True),
+            folder / row.take("sumo", str, config),
+            folder / row.take("map", str, street),
         )
 
+    config, street = given.need("sumo", str), given.need("map", str)
     plans = given.each("plan", plan_of)
-    config, mapped = folder / given.need("sumo", str), folder / given.need("map", str)
-    return Comparison(config, mapped, plans, terms_of(given, plans, (0.1, 1), 0.1))
+    return Comparison(plans, terms_of(given, plans, (0.1, 1), 0.1))
 
 
 def read_comparison(path: pathlib.Path) -> Comparison:
@@ -82,14 +85,18 @@ def read_comparison(path: pathlib.Path) -> Comparison:
     return of(read_toml(path), path.parent)
 
 
+def has_walks(plan: Plan) -> bool:
+    """Tells whether persons walk over crossings with signals under a plan."""
+    walks = any(it.walk for signal in read_map(plan.map).signals for it in signal.movements)
+    return walks and read_config(plan.config).has_persons()
+
+
 def without_walks(comparison: Comparison) -> tuple[Comparison, list[str]]:
     """Returns a comparison without the plans of SUMO's NEMA and actuated controllers where persons walk over crossings
     with signals, and the names of those plans: these controllers have no walk times, so a crossing would stay open all
     green and hold the vehicles that turn."""
-    street = read_map(comparison.map)
-    walks = any(it.walk for signal in street.signals for it in signal.movements)
-    left = [it.name for it in comparison.plans if it.controller in yardsticks.MAKERS]
-    if not left or not walks or not read_config(comparison.config).has_persons():
+    left = [it.name for it in comparison.plans if it.controller in yardsticks.MAKERS and has_walks(it)]
+    if not left:
         return comparison, []
     plans = tuple(it for it in comparison.plans if it.name not in left)
     if len(plans) < 2 or comparison.terms.against in left:
@@ -105,10 +112,10 @@ def scenario_of(plan: Plan) -> dict[str, Any]:
 
 def given_of(comparison: Comparison, plan: Plan, seed: int | None) -> RunGiven:
     """Reads all files of a run."""
-    config = read_config(comparison.config)
+    config = read_config(plan.config)
     return RunGiven(
         config,
-        read_map(comparison.map),
+        read_map(plan.map),
         network.read(config.network),
         scenario_of(plan),
         comparison.terms.step,

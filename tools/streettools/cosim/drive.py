@@ -117,6 +117,7 @@ class Start:
         words += ["--additional-files", additional] if additional else []
         words += ["--seed", self.seed] if self.seed is not None else []
         words += ["--tripinfo-output", self.out / TRIPS, "--tripinfo-output.write-unfinished"]
+        words += ["--tripinfo-output.write-undeparted"]
         words += ["--vehroute-output", self.out / ROUTES, "--vehroute-output.exit-times"]
         words += ["--vehroute-output.write-unfinished", "--stop-output", self.out / STOPS]
         words += ["--no-step-log", "--no-warnings", "--duration-log.disable", "--xml-validation", "never"]

@@ -13,8 +13,8 @@ from typing import Any
 
 from ..shared.fault import Fault
 from ..shared.session import LISTS
+from ..shared.session_record import Room
 from ..shared.status import Status
-from ..street.record import Room
 from .checks import yielding_in
 from .detectors import Areas, Detectors
 from .discharge import Crossings
@@ -220,6 +220,12 @@ def types_of(sumo: Any) -> dict[str, tuple[str, float]]:
     """Returns the class and the greatest speed of each type of vehicles."""
     types = sumo.vehicletype
     return {it: (types.getVehicleClass(it), types.getMaxSpeed(it)) for it in types.getIDList()}
+
+
+def pending_in(sumo: Any) -> dict[str, list[str]]:
+    """Returns the routes of the vehicles that wait to get into the network."""
+    names = sumo.simulation.getPendingVehicles()
+    return {it: list(sumo.vehicle.getRoute(it)) for it in names}
 
 
 def built_areas(street: Map, network: Network, out: pathlib.Path) -> tuple[Areas, tuple[pathlib.Path, ...]]:

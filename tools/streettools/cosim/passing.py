@@ -137,6 +137,13 @@ class Traffic:
             begun = starts.get(name, Begun(0.0, 0.0))
             self.ways[name] = list(self.routes.ways(edges, left, depart - begun.late - begin, begun.place))
 
+    def wait(self, pending: dict[str, list[str]], path: pathlib.Path, end: float) -> None:
+        """Takes the routes of those who wait to get in at the end of a run; their wait is in SUMO's file of trips."""
+        for name, begun in starts_of(path).items() if pending else ():
+            if begun.place < 0 and name in pending:
+                edges = pending[name]
+                self.ways[name] = list(self.routes.ways(edges, [None] * len(edges), end - begun.late, 0.0))
+
     def reaches(self, vehicle: str, way: Way, factor: float, most: float) -> float:
         """Returns when a vehicle would pass a stop line that drives at `factor` times the limit, and at `most` at the
         most."""
@@ -198,14 +205,15 @@ def trips_of(
         name = element.get("id")
         vehicle_class, most = types.get(element.get("vType", "").partition("@")[0], ("passenger", UNKNOWN_SPEED))
         late, arrival = float(element.get("departDelay")), float(element.get("arrival"))
-        factor = float(element.get("speedFactor", 1))
+        factor, depart = float(element.get("speedFactor", 1)), float(element.get("depart"))
+        wanted = end - late if depart < 0 else depart - late - begin
         found.append(
             Trip(
                 name,
                 name.rpartition(".")[0] or name,
                 kind_of(vehicle_class),
                 traffic.passages(name, factor, most, stood),
-                round(float(element.get("depart")) - late - begin, 2),
+                round(wanted, 2),
                 None if arrival < 0 else round(arrival - begin, 2),
                 round(float(element.get("timeLoss")) + late, 2),
                 int(element.get("waitingCount")),

@@ -15,7 +15,7 @@ from . import discharge, drive, report
 from .checks import check
 from .drive import Start
 from .halts import Halt
-from .loop import Given, Loop, Times, built_areas, types_of
+from .loop import Given, Loop, Times, built_areas, pending_in, types_of
 from .mapping import Map
 from .network import Network
 from .passing import Traffic, starts_of, stood_of, trips_of, walks_of
@@ -24,6 +24,14 @@ from .records import Kind, Movement, Passage, Study, Trip, queue_samples, save
 from .session import Session
 
 TRACE, STUDY, REPORT = "session.trace", "study.json", "report"
+
+
+class Left(NamedTuple):
+    """What SUMO says at the end of a run: the class and the greatest speed of each type, the routes of those who wait
+    to get in."""
+
+    types: dict[str, tuple[str, float]]
+    pending: dict[str, list[str]]
 
 
 class Span(NamedTuple):
@@ -84,6 +92,7 @@ def run(given: Given, program: pathlib.Path, out: pathlib.Path, progress: Callab
     loop: Loop | None = None
     fault: Fault | None = None
     types: dict[str, Any] = {}
+    pending: dict[str, list[str]] = {}
     try:
         check(given.street, given.network, given.scenario)
         areas, added = built_areas(given.street, given.network, out)
@@ -94,7 +103,7 @@ def run(given: Given, program: pathlib.Path, out: pathlib.Path, progress: Callab
                 try:
                     loop.run(progress)
                 finally:
-                    types = types_of(sumo)
+                    types, pending = types_of(sumo), pending_in(sumo)
         except (Fault, KeyboardInterrupt) as raised:
             if loop is None or not loop.times.steps:
                 raise
@@ -105,19 +114,17 @@ def run(given: Given, program: pathlib.Path, out: pathlib.Path, progress: Callab
     finally:
         session.end()
     assert loop is not None
-    return done(given, loop, session, types, out, fault)
+    return done(given, loop, session, Left(types, pending), out, fault)
 
 
-def done(
-    given: Given, loop: Loop, session: Session, types: dict[str, Any], out: pathlib.Path, fault: Fault | None
-) -> Done:
+def done(given: Given, loop: Loop, session: Session, left: "Left", out: pathlib.Path, fault: Fault | None) -> Done:
     """Writes what was recorded."""
     if not session.save(out / TRACE):
         return Done(None, loop.times, fault)
     halts, begin = loop.halts.found, given.config.begin
     seconds = loop.second
     history = loop.watch.history
-    trips, traffic = read_traffic(given.street, given.network, history, halts, types, out, Span(begin, seconds))
+    trips, traffic = read_traffic(given.street, given.network, history, halts, left, out, Span(begin, seconds))
     movements = movements_of(given.street)
     passed = discharge.passages_of(traffic, halts, loop.crossings.lanes)
     study = Study(
@@ -144,7 +151,7 @@ def read_traffic(
     network: Network,
     history: dict[str, list[tuple[float, str]]],
     halts: list[Halt],
-    types: dict[str, tuple[str, float]],
+    left: Left,
     out: pathlib.Path,
     span: Span,
 ) -> tuple[list[Trip], Traffic]:
@@ -152,7 +159,8 @@ def read_traffic(
     traffic = Traffic(street, network, history)
     traffic.read_stops(out / drive.STOPS)
     traffic.read_routes(out / drive.ROUTES, span.begin, starts_of(out / drive.TRIPS))
-    return trips_of(out / drive.TRIPS, traffic, span.begin, types, stood_of(halts), span.end), traffic
+    traffic.wait(left.pending, out / drive.TRIPS, span.end)
+    return trips_of(out / drive.TRIPS, traffic, span.begin, left.types, stood_of(halts), span.end), traffic
 
 
 def lanes_of(given: Given) -> list[discharge.Approach]:

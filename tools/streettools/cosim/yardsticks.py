@@ -20,11 +20,11 @@ from . import drive
 from .checks import yielding_in
 from .drive import Start
 from .halts import Halts
-from .loop import Given, Times, types_of
+from .loop import Given, Times, pending_in, types_of
 from .mapping import MappedSignal
 from .network import Link, Network
 from .records import Trip
-from .run import Span, read_traffic
+from .run import Left, Span, read_traffic
 from .signals import MayYield, Watch
 
 NEMA, ACTUATED = "nema", "actuated"
@@ -166,11 +166,11 @@ def run(
             if (step + 1) % a_second == 0:
                 halts.look(second)
                 progress(1)
-        types = types_of(sumo)
+        left = Left(types_of(sumo), pending_in(sumo))
     times.whole, times.steps = time.perf_counter() - begun, given.steps()
     history = {name: rows for name, rows in watch.history.items()}
     span = Span(given.config.begin, given.seconds)
-    trips, _ = read_traffic(given.street, given.network, history, halts.found, types, out, span)
+    trips, _ = read_traffic(given.street, given.network, history, halts.found, left, out, span)
     if not trips:
         raise Fault(f"{given.config.path}: no vehicle drove")
     return trips, times

@@ -21,9 +21,10 @@ def blamed(path: Path, *names: str) -> Iterator[None]:
 
 
 @contextlib.contextmanager
-def whole(path: Path) -> Iterator[str]:
+def whole(path: Path, is_private: bool = False) -> Iterator[str]:
     """Gives the name of a file beside `path`, which takes its place at the end; where that isn't reached nothing is
-    left of it and what stood at `path` still stands. What is no file, as a pipe, is written as it goes."""
+    left of it and what stood at `path` still stands. What is no file, as a pipe, is written as it goes. A private file
+    can be read by its owner only."""
     if os.path.exists(path) and not os.path.isfile(path):
         with blamed(path):
             yield str(path)
@@ -42,7 +43,7 @@ def whole(path: Path) -> Iterator[str]:
             yield name
             mask = os.umask(0)
             os.umask(mask)
-            os.chmod(name, 0o666 & ~mask)
+            os.chmod(name, 0o600 if is_private else 0o666 & ~mask)
             os.replace(name, aim)
     except BaseException:
         os.unlink(name)

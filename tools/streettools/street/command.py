@@ -49,7 +49,7 @@ class Telling(Hearer):
     def began(self, scenario: dict[str, Any]) -> None:
         self.sessions += 1
         if self.sessions > 1:
-            say("the session ended; a new one begins with start-up")
+            say("the session ended; a new one begins with start-up, with these tables, patterns, clocks and inputs")
 
     def ended_round(self, ticks: int) -> None:
         seconds = ticks / TICKS_A_SECOND

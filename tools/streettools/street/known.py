@@ -80,6 +80,12 @@ class Downloads:
         return min(greatest + GAP, LAST_NUMBER) if greatest < LAST_NUMBER else None
 
 
+def near(due: int, clock: int) -> int:
+    """Returns the time of a clock next to an expected one, in ticks since 1970."""
+    half = TICKS_OF_A_DAY // 2
+    return due + (clock - due + half) % TICKS_OF_A_DAY - half
+
+
 class Clocks:
     """The dates of the cabinets, whose own clocks have a time of day only.
 
@@ -96,11 +102,13 @@ class Clocks:
         """By cabinet: the ticks at which the time was known last, and that time in ticks since 1970."""
 
     def began(self, scenario: dict[str, Any]) -> None:
-        """A session begins."""
+        """A session begins, the first one or one that follows another."""
         today = calendar.timegm(time.gmtime()) // DAY if self.today is None else self.today
+        for number, it in enumerate(scenario["cabinets"], 1):
+            clock = it.get("clock", 0)
+            time_there = near(self.expected(number), clock) if number in self.known else today * TICKS_OF_A_DAY + clock
+            self.known[number] = (0, time_there)
         self.ticks = 0
-        clocks = [it.get("clock", 0) for it in scenario["cabinets"]]
-        self.known = {number: (0, today * TICKS_OF_A_DAY + clock) for number, clock in enumerate(clocks, 1)}
 
     def heard(self, request: bytes | None, answer: Answer) -> None:
         """Takes a request that was answered."""
@@ -125,8 +133,6 @@ class Clocks:
     def seconds(self, cabinet: int, clock: int) -> int:
         """Returns the seconds since 1970 of a cabinet whose clock was read: the time next to the expected one, since
         clocks drift and the master sets them."""
-        due = self.expected(cabinet)
-        half = TICKS_OF_A_DAY // 2
-        found = due + (clock - due + half) % TICKS_OF_A_DAY - half
+        found = near(self.expected(cabinet), clock)
         self.known[cabinet] = (self.ticks, found)
         return found // 10

@@ -1,7 +1,7 @@
 """Records of a street: the trace of each session, and its requests, by which the street can be had again.
 
 The trace stands at the named path when the session is over, the requests beside it while it runs. Reads are left out
-of both, since they change nothing.
+of both, since they change nothing. Only their owner can read them.
 """
 
 import errno
@@ -14,16 +14,12 @@ from ..shared import files
 from ..shared.fault import Fault
 from ..shared.program import Died
 from ..shared.session import Answer, scenario_line
-from ..shared.session_record import SessionRecord, compact
+from ..shared.session_record import Room, SessionRecord
 from .street import Hearer
 
-MOST_INPUTS, MOST_FRAMES, MOST_SCENARIO, MOST_TRACE = 1_000_000, 100_000, 16_777_216, 67_108_864
-"""The limits of a scenario and of a trace that is checked."""
 REQUESTS = ".dialogue"
 """How the name of a file of requests ends."""
 TICKS = re.compile(rb"tick [1-9]\d{0,8}")
-FULL = 0.9
-"""Which part of what a scenario leaves free is used before a session ends for its record's sake."""
 
 
 def requests_beside(trace: pathlib.Path) -> pathlib.Path:
@@ -43,26 +39,6 @@ def read_requests(path: pathlib.Path) -> tuple[bytes, list[bytes]]:
     return first, found
 
 
-class Room:
-    """How much more a record may hold before its session has to end."""
-
-    def __init__(self, scenario: dict[str, Any]) -> None:
-        text = len(compact(scenario))
-        self.inputs = FULL * (MOST_INPUTS - len(scenario.get("inputs", ())))
-        self.frames = FULL * (MOST_FRAMES - len(scenario.get("frames", ())))
-        self.octets = FULL * (MOST_TRACE - text)
-        self.scenario = FULL * (MOST_SCENARIO - text)
-
-    def is_used(self, record: SessionRecord) -> bool:
-        """Tells whether a record has used it."""
-        return (
-            len(record.added["inputs"]) >= self.inputs
-            or len(record.added["frames"]) >= self.frames
-            or record.added_size >= self.scenario
-            or record.size + record.added_size >= self.octets
-        )
-
-
 class Requests:
     """The file of the requests of a session. It holds whole lines at every time, those up to the last ticks."""
 
@@ -73,7 +49,7 @@ class Requests:
             raise IsADirectoryError(errno.EISDIR, "Is a directory", str(path))
         if os.path.lexists(path):
             path.replace(path.with_name(f"{path.name}~"))
-        self.file = os.open(path, os.O_WRONLY | os.O_CREAT | os.O_EXCL | os.O_NOFOLLOW | os.O_CLOEXEC, 0o666)
+        self.file = os.open(path, os.O_WRONLY | os.O_CREAT | os.O_EXCL | os.O_NOFOLLOW | os.O_CLOEXEC, 0o600)
         self.end = 0
         self.waiting = b""
 
@@ -149,5 +125,5 @@ class Recorder(Hearer):
             self.record.cut()
         if self.record.number < 1:
             return
-        with files.whole(self.trace_path()) as name, open(name, "wb") as out:
+        with files.whole(self.trace_path(), is_private=True) as name, open(name, "wb") as out:
             out.writelines(self.record.trace())

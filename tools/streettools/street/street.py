@@ -13,6 +13,7 @@ from ..shared.fault import Fault
 from ..shared.program import Died
 from ..shared.session import Answer
 from ..shared.status import Status
+from .carried import Unread, next_scenario
 from .inputs import Inputs
 from .known import Clocks, Downloads
 from .pace import Pace
@@ -20,6 +21,8 @@ from .session import Over, Session, frame, reply_in
 
 LONGEST = 1472
 """The octets of the longest message that a cabinet may be given."""
+SPARE = 20_000
+"""How many ticks before its last one a session changes."""
 MOST_ROUNDS, MOST_TICKS = 86_400, 55_296_000
 """The limits of a scenario: rounds; ticks of all cabinets together."""
 
@@ -82,6 +85,14 @@ class Street:
         self.closed: Session | None = None
         self.fault: Exception | None = None
         self.inputs, self.downloads, self.clocks = Inputs(), Downloads(), Clocks()
+        self.changing: asyncio.Future[None] | None = None
+        """While a session changes: messages wait for it."""
+        self.turns = 0
+        """How many turns are under way: a session changes between them."""
+        self.is_carried = False
+        """Whether the next session begins with what the cabinets have."""
+        self.lost_at = 0
+        """The last session that began without what the cabinets had in the one before it, counted from 0."""
         self.ended = asyncio.Event()
         self.woken = asyncio.Event()
         self.renewals = 0
@@ -139,6 +150,8 @@ class Street:
     async def datagram(self, cabinet: int, octets: bytes, manager: Manager = NOBODY) -> bytes | None:
         """Returns a cabinet's reply to a datagram, which comes behind the ticks that are due. Where time goes on by
         messages it does so behind the reply, and the next message waits."""
+        if self.changing is not None:
+            await self.gate()
         if not self.after_message:
             self.session.send_all_ticks(self.pace.due())
             return await self.message(cabinet, octets)
@@ -149,13 +162,18 @@ class Street:
     async def turn(self) -> AsyncIterator[None]:
         """The turn of one datagram, whatever is asked of the cabinets for it: behind the ticks that are due; those
         that a message takes go by at its end."""
-        if not self.after_message:
-            self.session.send_all_ticks(self.pace.due())
-            yield
-            return
-        async with self.order:
-            yield
-            await self.session.take(self.after_message)
+        await self.gate()
+        self.turns += 1
+        try:
+            if not self.after_message:
+                self.session.send_all_ticks(self.pace.due())
+                yield
+                return
+            async with self.order:
+                yield
+                await self.session.take(self.after_message)
+        finally:
+            self.turns -= 1
 
     def make_room(self) -> None:
         """Ends a round that is almost full, as where time stands and messages come: the program keeps them until their
@@ -166,6 +184,7 @@ class Street:
 
     async def input(self, request: bytes) -> bool:
         """Tells a cabinet of an input from the street; returns whether that was taken."""
+        await self.gate()
         self.make_room()
         try:
             return not await self.session.ask(request)
@@ -179,8 +198,8 @@ class Street:
             if self.session.is_over:
                 if not await self.renewed():
                     return
-            elif any(hearer.is_full() for hearer in self.hearers):
-                await self.session.finish()
+            elif not self.ticks_left() or any(hearer.is_full() for hearer in self.hearers):
+                await self.change()
             else:
                 await self.pause(self.pace.wait())
         if self.fault:
@@ -190,14 +209,40 @@ class Street:
         """Takes ticks, and between them what hearers bring."""
         stride = min((hearer.stride for hearer in self.hearers), default=Hearer.stride)
         while count and not self.session.is_over and not self.ended.is_set():
+            if not self.ticks_left():
+                self.pace.step(count)
+                return
             for hearer in self.hearers:
                 with failing(hearer):
                     due = hearer.due_inputs(self.session.taken)
                 for request in due:
                     await self.input(request)
-            now = min(count, stride)
+            now = min(count, stride, self.ticks_left())
             await self.session.take(now)
             count -= now
+
+    def ticks_left(self) -> int:
+        """Returns how many ticks are left until the session changes: some before its last one, so that there is time
+        to read what is carried over. A session with which the street ends doesn't change."""
+        total: int = self.scenario["rounds"] * self.scenario["ticks"]
+        return MOST_TICKS if self.stops_at_end else max(0, total - min(total // 4, SPARE) - self.session.taken)
+
+    async def change(self) -> None:
+        """Ends a session, so that the next one goes on with what the cabinets have; messages wait meanwhile. Where that
+        can't be read the next one begins as the first did."""
+        self.changing = asyncio.get_running_loop().create_future()
+        while self.turns:
+            await asyncio.sleep(0.001)
+        with contextlib.suppress(Unread):
+            self.scenario = await next_scenario(self)
+            self.is_carried = True
+        with contextlib.suppress(Over):
+            await self.session.finish()
+
+    async def gate(self) -> None:
+        """Waits while a session changes."""
+        while self.changing is not None:
+            await asyncio.shield(self.changing)
 
     async def pause(self, seconds: float) -> None:
         """Waits, or until it is woken."""
@@ -227,7 +272,11 @@ class Street:
         if self.stops_at_end:
             return False
         self.renewals += 1
+        self.lost_at, self.is_carried = self.lost_at if self.is_carried else self.renewals, False
         await self.open()
+        if self.changing is not None:
+            self.changing.set_result(None)
+            self.changing = None
         return True
 
     async def close(self) -> None:

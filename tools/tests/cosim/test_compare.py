@@ -59,6 +59,25 @@ def test_sumos_nema_controller_runs_the_same_street(tmp_path):
     assert nema == pytest.approx(own, rel=0.5)
 
 
+@needs_sumo
+def test_plans_may_have_maps_of_their_own(tmp_path):
+    """The left turn protected only, and permissive in addition."""
+    text = (TEE / "tee.map.toml").read_text()
+    own = 'name = "WBL"\nphase = 1\n'
+    assert own in text
+    (tmp_path / "both.map.toml").write_text(text.replace(own, own + "permissive = 2\n"))
+    path = tmp_path / "plans.toml"
+    head = HEAD.replace("[1, 2]", "[1]").replace("seconds = 60", "seconds = 300")
+    path.write_text(head + plan("protected") + plan("permissive", f'map = "{tmp_path / "both.map.toml"}"'))
+    ran = cosim("compare", path, "-o", tmp_path / "out")
+    assert ran.status == 0, ran
+    rows = json.loads((tmp_path / "out/comparison.json").read_text())["rows"]
+    delay = {it["plan"]: it["delay"][0] for it in rows if it["group"] == "all vehicles"}
+    assert delay["permissive"] < delay["protected"]
+    path.write_text(HEAD + plan("one") + plan("two", 'map = "none.toml"'))
+    assert cosim("compare", path, "-o", tmp_path / "out").status == 1
+
+
 PERSON = '<person id="p.0" depart="5"><walk from="in-north" to="out-west"/></person></routes>'
 
 

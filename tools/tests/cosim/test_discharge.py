@@ -2,7 +2,7 @@
 
 import pytest
 
-from streettools.cosim import discharge, network
+from streettools.cosim import discharge, network, records
 from streettools.cosim.records import Kind, LaneFlow, Movement, Passage, QueueSample, Trip, queue_samples
 
 from .conftest import TEE, cosim, needs_sumo, run_tee
@@ -98,3 +98,17 @@ def test_a_run_says_what_its_delays_depend_on(tee):
     said = [it.removeprefix("cosim: ") for it in ran.said]
     assert any(it.startswith("steps of 1 s lower SUMO's saturation flow") for it in said), said
     assert any(it.startswith("saturation flow is") and "1800 and 2 s are assumed" in it for it in said), said
+
+
+@needs_sumo
+def test_who_never_got_into_the_network_is_in_the_queue_that_is_left(tee):
+    """A vehicle a second wants to start, far more than a lane takes: all who haven't passed wait at the stop line."""
+    (tee / "tee.rou.xml").write_text(FULL)
+    assert run_tee(tee, "--seconds", 200).status == 0
+    study = records.load(tee / "out/study.json")
+    full = [it for it in study.trips if it.route == "full"]
+    assert len(full) >= 195
+    waiting = [it for it in full if it.waits is not None and it.waits[1] == "EBT"]
+    assert len(waiting) > 50 and all(it.delay > 0 for it in waiting)
+    last = [it for it in study.queues if it.movement == "EBT"][-1]
+    assert last.vehicles == len(waiting)

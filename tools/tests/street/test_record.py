@@ -8,7 +8,7 @@ import time
 import pytest
 from model.promises.judging import broken_promises
 from streettools.cabinet.messages import SET, message
-from streettools.street import record
+from streettools.shared import session_record
 from streettools.street.pace import Pace
 from streettools.street.record import Recorder
 from streettools.street.street import Street, rounds_for
@@ -41,6 +41,8 @@ def test_a_record_is_a_trace_with_every_set_and_no_read(street, tmp_path):
     trace = recorded(street, tmp_path / "session.trace")
     assert checked(tmp_path / "session.trace") == (0, b"")
     assert broken_promises(trace) == []
+    files = (tmp_path / "session.trace", tmp_path / "session.dialogue")
+    assert [it.stat().st_mode & 0o777 for it in files] == [0o600, 0o600]
     scenario = json.loads(trace.split(b"\n", 1)[0][2:])
     assert [item["hex"] for item in scenario["frames"]] == [set_clock(n, 1000 * n).hex() for n in range(3, 30, 3)]
     assert trace.count(b"\nA ") == 9
@@ -143,7 +145,7 @@ def street_here(pace, hearers):
 
 
 def test_a_full_record_is_followed_by_another(tmp_path, monkeypatch):
-    monkeypatch.setattr(record, "FULL", 6e-6)
+    monkeypatch.setattr(session_record, "FULL", 6e-6)
     made = street_here(50, [Recorder(tmp_path / "session.trace")])
     asyncio.run(lived(made))
     assert made.renewals >= 1

@@ -183,8 +183,11 @@ async def lived(world, places, moves):
             sender, octets = world.late.pop(which % len(world.late))
             await world.ask(sender.place, octets)
         await asyncio.gather(*(it.move(fate, cells) for it in actors.get(who, ())))
-        if who == "session" and which == 0:
+        if who == "session" and which == 1:
+            await world.street.change()
+        if who == "session" and which <= 1:
             await world.street.renewed()
+        if who == "session" and which == 0:
             world.in_force.clear()
         await world.look()
         for central in (first, second):
@@ -336,6 +339,22 @@ def test_copies_of_steps_are_answered_as_their_first_and_do_nothing():
     talk(talked)
 
 
+def test_the_set_id_changes_with_the_tables():
+    name = (*oids.GLOBAL, 1, 1, 0)
+
+    async def talked(it):
+        seen = [*await it.read(name), *await it.read(name)]
+        await it.gathered(ONE, 41)
+        seen += await it.read(name)
+        await it.go_to(ONE, NORMAL)
+        seen += await it.read(name)
+        await it.world.street.renewed()
+        seen += await it.read(name)
+        assert seen[0] == seen[1] == seen[2] and len(set(seen)) == 3
+
+    talk(talked)
+
+
 def test_cells_that_wait_are_discarded_by_normal_only():
     async def talked(it):
         await it.go_to(ONE, TRANSACTION, 5000)
@@ -395,6 +414,18 @@ def test_a_transaction_does_not_outlive_its_session():
         assert [await it.go_to(ONE, NORMAL), *await it.read(FIRST, oids.TRANSACTION)] == [GEN_ERR, 40, NORMAL]
         assert await it.gathered(ONE, 42) == [0, 0, 0]
         assert [await it.go_to(ONE, NORMAL), *await it.read(FIRST)] == [0, 42]
+
+    talk(talked)
+
+
+def test_tables_in_force_are_carried_over_and_a_transaction_is_not():
+    async def talked(it):
+        assert [*await it.gathered(ONE, 39), await it.go_to(ONE, NORMAL, 5000)] == [0] * 4
+        assert await it.gathered(TWO, 41) == [0, 0, 0]
+        await it.world.street.change()
+        await it.world.street.renewed()
+        assert [await it.go_to(ONE, NORMAL, 5000), await it.go_to(ONE, NORMAL), *await it.read(FIRST)] == [0, 0, 39]
+        assert [await it.go_to(TWO, NORMAL), *await it.read(FIRST)] == [GEN_ERR, 39]
 
     talk(talked)
 

@@ -38,14 +38,19 @@ Parted = list[tuple[int, Binding]]
 class Cabinet:
     """A cabinet behind the front."""
 
-    def __init__(self, street: Street, cabinet: int, before: "Cabinet | None" = None) -> None:
-        """Opens the front of a cabinet; in the place of that of the session before, whose tables are lost."""
+    def __init__(
+        self, street: Street, cabinet: int, before: "Cabinet | None" = None, is_carried: bool = False
+    ) -> None:
+        """Opens the front of a cabinet; in the place of that of the session before, whose open transaction is lost, and
+        so are its tables if they weren't carried over."""
         self.street = street
         self.number = cabinet
         self.managers: Managers = before.managers if before else Managers()
-        self.managers.begins_anew()
         self.copies: Copies = before.copies if before else Copies()
-        self.copies.begins_anew((GEN_ERR, 1))
+        self.managers.discarded(None)
+        if not is_carried:
+            self.managers.begins_anew()
+            self.copies.begins_anew((GEN_ERR, 1))
         self.front = Front(street, cabinet, self.managers)
         self.transaction = self.front.transaction
         self.order = asyncio.Lock()
@@ -255,8 +260,9 @@ class Fronts:
     async def datagram(self, cabinet: int, octets: bytes, manager: Manager = NOBODY) -> bytes | None:
         """Returns the reply to a datagram."""
         if self.sessions != self.street.renewals:
+            is_carried = self.street.lost_at <= self.sessions
             self.sessions = self.street.renewals
             count = len(self.street.scenario["cabinets"])
             before: list[Cabinet | None] = [*self.cabinets] or [None] * count
-            self.cabinets = [Cabinet(self.street, number, it) for number, it in enumerate(before, 1)]
+            self.cabinets = [Cabinet(self.street, number, it, is_carried) for number, it in enumerate(before, 1)]
         return await self.cabinets[cabinet - 1].answer(octets, manager)

@@ -118,7 +118,6 @@ class Managers:
 
     def begins_anew(self) -> None:
         """The street begins anew: no tables that were put in force before are in force."""
-        self.discarded(None)
         self.endings = collections.OrderedDict.fromkeys(self.endings, False)
 
     def end(self, is_well: bool, losers: set[Manager]) -> None:

@@ -10,10 +10,11 @@ from ...shared.ber import COUNTER, NAME, TIME_TICKS, Arcs, Field, name_content
 from ...shared.cells import PATTERNS, PREEMPTS, RINGS, SEQUENCES, SPLITS
 from ...shared.oids import (
     ASC, CLOCK, CONTROL, COUNTER_OF_CYCLE, DETECTOR_GROUP, GLOBAL, GLOBAL_TIME, MODE, OWN, PED_CALL, PHASE_CONTROL,
-    PREEMPT_CONTROL, PREEMPT_STATE, STATUS, SYSTEM, TRANSACTION, VEH_CALL, VERIFY_ERROR, VERIFY_STATUS,
+    PREEMPT_CONTROL, PREEMPT_STATE, STATUS, SYSTEM, TRANSACTION, VEH_CALL, VERIFY_ERROR,
+    VERIFY_STATUS, VERSION as VERSION_OF_TABLES,
 )  # fmt: skip
-from ...shared.version import VERSION
 from ...shared.tables import ALL
+from ...shared.version import VERSION
 from ..street import Street
 from .judging import columns
 from .managers import Managers
@@ -25,6 +26,8 @@ FLASH, COORD, SEEK = 6, 4, 3
 GROUP = 8
 """The phases or detectors of a group."""
 COUNTER_END = 1 << 32
+SET_IDS, SESSION_STEP = 1 << 16, 4099
+"""How many values globalSetIDParameter has, and by how much it differs in the next session."""
 
 
 class Front:
@@ -80,6 +83,12 @@ async def global_time(front: Front) -> Field:
     return whole(front.street.clocks.seconds(front.cabinet, clock) % COUNTER_END, COUNTER)
 
 
+async def set_id(front: Front) -> Field:
+    """Returns a number that changes with the tables in force, also if the street begins anew."""
+    (version,) = await front.side.numbers(VERSION_OF_TABLES)
+    return whole((version + SESSION_STEP * front.street.renewals) % SET_IDS)
+
+
 async def flash_status(front: Front) -> Field:
     """Returns notFlash (2) or automatic (3)."""
     (mode,) = await front.side.numbers(MODE)
@@ -119,7 +128,6 @@ def scalars() -> dict[Arcs, Read]:
         SYSTEM + (4, 0): text(b""),
         SYSTEM + (6, 0): text(b""),
         SYSTEM + (7, 0): whole(72),
-        GLOBAL + (1, 1, 0): whole(0),
         GLOBAL + (1, 2, 0): whole(1),
         ASC + (1, 1, 0): whole(len(ALL)),
         ASC + (1, 3, 0): whole(len(ALL) // GROUP),
@@ -134,6 +142,7 @@ def scalars() -> dict[Arcs, Read]:
     }
     made = {name: constant(value) for name, value in words.items()}
     made[SYSTEM + (5, 0)] = kept(lambda front: text(front.street.name_of(front.cabinet).encode()))
+    made[GLOBAL + (1, 1, 0)] = set_id
     made |= {SYSTEM + (3, 0): up_time, GLOBAL_TIME: global_time, ASC + (3, 6, 0): flash_status}
     made |= {ASC + (4, 11, 0): free_status, ASC + (4, 12, 0): cycle_status, ASC + (4, 13, 0): sync_status}
     made[TRANSACTION] = by_stage(lambda transaction: whole(transaction.state))
