@@ -68,6 +68,10 @@ run_and_explain() {
             show_expected "$said"
         fi
         ;;
+    7:overlap:*)
+        shift
+        show_overlap "$said" "$@"
+        ;;
     esac
     exit "$status"
 }
@@ -96,6 +100,11 @@ show_expected() {
     else
         say "with the name of a file, arterial check FILE also shows the line read and the expected line"
     fi
+}
+
+# Shows, after the program's line about an overlap that breaks a rule, what the rule asks.
+show_overlap() {
+    [ -f /dev/stdin ] && (set_python && "$found" -B "$tools/streettools" launch overlap "$@")
 }
 
 # Shows, after the program's line about an invalid scenario, what was expected and what was found.
@@ -152,7 +161,7 @@ run_sheet() {
     made=$("$found" -B "$tools/streettools" plan scenario "$1") || exit
     say "$1 is a timing sheet: the scenario that it makes is run (arterial plan scenario writes it)"
     case $made in
-    *'"inputs":'*) ;;
+    *'"veh":'* | *'"ped":'*) ;;
     *) say "no detector calls in this run: arterial cosim queues brings vehicles; recall = \"maximum\" calls without them" ;;
     esac
     exec <<END

@@ -28,7 +28,8 @@ NOT_RUN = {
     r"\./arterial street ": "it serves until it is stopped; tools/tests/street runs it",
     r"(for port in .*; do )?snmpget -v1 -c public -Os 127": "it asks a street that serves; tools/tests/street does so",
     r"(\./arterial|python3 -m model) live$": "it waits for requests; vectors/live_sessions holds such sessions",
-    r"\./arterial cosim ((run|compare) |draw .* out/)": "it needs SUMO; tools/tests/cosim runs such streets",
+    r"\./arterial (cosim (run |compare (?!.*\.compare\.toml)|(draw|table) .* out/)|sweep measure out/)":
+        "it needs SUMO, or the folder of a run under it; tools/tests/cosim runs such streets",
     r".*session\.trace": "what a street has recorded; tools/tests/street makes one",
     r"(export|to=|snmp\w+ \$to) ?": "the dialogue of docs/CLIENTS.md, which tools/tests/cabinet/test_dialogue.py runs",
     r".*session\.json": "what a live cabinet has recorded; tools/tests/cabinet makes one",
@@ -130,7 +131,7 @@ def test_what_is_not_run_is_there():
 def test_a_command_is_found_with_what_it_prints():
     """The tutorial shows `a trace` after its check."""
     check = next(it for it in pages.commands(pathlib.Path("docs/TUTORIAL.md")) if "&& echo" in it.text)
-    assert (check.text, check.printed) == ("./arterial check trace && echo a trace", ["a trace"])
+    assert (check.text, check.printed) == ("./arterial check river-road.trace && echo a trace", ["a trace"])
 
 
 @pytest.mark.parametrize(

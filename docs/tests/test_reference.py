@@ -13,9 +13,10 @@ from pages import TOP
 sys.path.insert(0, str(TOP / "tools"))
 
 from streettools import words  # noqa: E402
-from streettools.reference import definitions, main, manual, program, tree  # noqa: E402
+from streettools.reference import definitions, front_objects, main, manual, mib, program, tree  # noqa: E402
 from streettools.shared import short_help  # noqa: E402
 from streettools.shared.status import MEANINGS, Status  # noqa: E402
+from streettools.street.ntcip.objects import OBJECTS  # noqa: E402
 
 MANUAL = sorted(TOP.glob("docs/man/*.1"))
 
@@ -124,3 +125,37 @@ def test_groff_has_no_warning_for_a_manual_page(page):
 
 def test_no_manual_page_has_an_old_name():
     assert [it.name for it in MANUAL] == sorted(["arterial.1", *(f"arterial-{it.name}.1" for it in words.TOOLS)])
+
+
+@pytest.mark.parametrize(
+    "row",
+    [
+        "| `downloadBegin` | 1.3.6.1.4.1.32473.1.1.2 | Set |",
+        "| `downloadOutcome` | 1.3.6.1.4.1.32473.1.1.7 | read |",
+        "| `cabinetClock` | 1.3.6.1.4.1.32473.1.2.1 | read, Set |",
+        "| `backupTime` | 1.3.6.1.4.1.32473.1.3.4 | read, download |",
+        "| `systemPatternControl` | 1.3.6.1.4.1.1206.4.2.1.4.14 | read, Set |",
+        "| `coordCorrectionMode` | 1.3.6.1.4.1.1206.4.2.1.4.2 | read, download |",
+        "| `phaseMinimumGreen` | 1.3.6.1.4.1.1206.4.2.1.1.2.1.4 | read, download |",
+        "| `sysName` | 1.3.6.1.2.1.1.5.0 | read |",
+        "| `preemptControlState` | 1.3.6.1.4.1.1206.4.2.1.6.3.1.2.n, n from 1 to 8 | read, Set |",
+    ],
+)
+def test_an_object_has_its_identifier_and_by_what_it_changes(row):
+    """By mibs/ARTERIAL-PROFILE-MIB and docs/SNMP-CONFORMANCE.md, written down by hand."""
+    assert mib.page(TOP).count(row) == 1
+
+
+def test_each_object_of_the_front_end_has_one_name():
+    found = [[base for base in front_objects.NAMED if arcs[: len(base)] == base] for arcs in OBJECTS]
+    assert [it for it in found if len(it) != 1] == []
+    assert {it[0] for it in found} == {*front_objects.NAMED}
+
+
+def test_each_identifier_in_the_page_of_conformance_is_that_of_its_object():
+    """By the page that is made from the MIB."""
+    rows = re.findall(r"^\| `(\w+)` \| ([\d.]+)", mib.page(TOP), re.M)
+    listed = dict(rows)
+    text = (TOP / "docs/SNMP-CONFORMANCE.md").read_text(encoding="utf-8")
+    shown = re.findall(r"`(\w+)` \| ([\d.]+) \|", text)
+    assert len(shown) > 10 and [it for it in shown if listed[it[0]] != it[1]] == []

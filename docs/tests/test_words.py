@@ -38,3 +38,29 @@ CHECKED = [it for it in pages.pages() if str(it) not in OWN]
 def test_a_page_has_no_avoided_words(page):
     for pattern in PATTERNS:
         assert matches(pattern, page) == [], f"write {pattern['write']!r}"
+
+
+COMMENT = re.compile(r"\s*(?:///|//!|//|--)(.*)")
+THERE = re.compile(r"\bthere (?:is|are) no\b", re.IGNORECASE)
+"""What a comment may say: that nothing of a kind is there."""
+
+
+def comments(file: pathlib.Path) -> str:
+    """Returns the comments of a file in one line, without code spans; a full stop parts those with code between."""
+    found = (COMMENT.match(line) for line in file.read_text(encoding="utf-8").splitlines())
+    text = re.sub(r"\s+", " ", " ".join(it[1] if it else "." for it in found))
+    return THERE.sub("there ..", re.sub(r"`[^`]*`", "`..`", text))
+
+
+@pytest.mark.parametrize("crate", sorted(it.name for it in (TOP / "crates").iterdir()))
+def test_the_comments_of_a_crate_have_no_avoided_words(crate):
+    folders = ("src", "specs", "proofs")
+    files = [it for folder in folders for it in sorted((TOP / "crates" / crate / folder).rglob("*.*t"))]
+    texts = {str(it.relative_to(TOP)): comments(it) for it in files if it.suffix in (".rt", ".antt")}
+    for pattern in PATTERNS:
+        found = [
+            f"{name}: {text[max(0, it.start() - 30) : it.end() + 30]}"
+            for name, text in texts.items()
+            for it in re.finditer(pattern["find"], text, re.IGNORECASE)
+        ]
+        assert found == [], f"write {pattern['write']!r}"

@@ -54,7 +54,7 @@ around-is : (p m : Message) (binds : List Bind) → p ≡ response m 0 0 [] → 
 unfolding shortest message_content pdu_content message_around content_around pdu_around
 around-is p m binds same = rw same refl
 
--- and is no shorter than these
+-- and is at least as long as these
 list_within : (m : Message) → length (flat_map binding_text m.binds.items) ≤ length (shortest m)
 unfolding shortest message_content pdu_content
 list_within m =

@@ -73,6 +73,6 @@ ask_in community t m =
 abbrev pub ask_of : List ℕ → List ℕ → Tables → Option Ask
 ask_of frame community t = message_of frame >>= ask_in community t
 
--- the frame is no message of this community, or a Response
+-- the frame is not a message of this community, or a Response
 abbrev pub AsksNothing : List ℕ → List ℕ → Type 0
 AsksNothing frame community = (m : Message) → IsMessage frame m → m.community.items ≡ community → m.pdu ≡ Response

@@ -10,7 +10,7 @@ before (Err status) place others = Err (record { status = status; index = place 
 before (Ok given) place (Ok others) = Ok (given ∷ others)
 before (Ok given) place (Err fault) = Err fault
 
--- what each binding gives, or the status and the place of the first that gives nothing; the first stands at this place
+-- what each binding gives, or the status and the place of the first that gives nothing; the first is at this place
 abbrev pub each_gives : {A : Type 0} → (Bind → Result A ℕ) → ℕ → List Bind → Result (List A) Fault
 each_gives give place [] = Ok []
 each_gives give place (bind ∷ binds) = before (give bind) place (each_gives give (place + 1) binds)

@@ -1,5 +1,6 @@
--- What a Set wishes of the download stage (transactions after NTCIP 1201), binding by binding: each first by its name (status 2:
--- it can't stand there) and then by its value (status 3: another type, or out of range). The first fault counts.
+-- What a Set wishes of the download stage (transactions after NTCIP 1201), binding by binding: each first by its name
+-- (status 2: it can't be there) and then by its value (status 3: another type, or out of range). The first fault
+-- counts.
 use Rattle.std.specs.Prelude.{◌≡◌, ℕ, ◌≤◌, ◌==◌, pos, nat_le, if◌then◌else◌, List, [], ◌∷◌, length, Option, Some, None, Result, Ok, Err, is_ok}
 use Rattle.sig_tables.specs.declared.cells.Cell.{Cell}
 use Rattle.sig_tables.specs.declared.cells.CellValue.{CellValue}
@@ -32,7 +33,7 @@ cell_value (Int (pos n)) = Some (NumberValue n)
 cell_value (Octets octets) = if nat_le (length octets.items) 16 then Some (OctetsValue (record { items = octets.items })) else None
 cell_value _ = None
 
--- a cell with what is put into it, where that may stand there
+-- a cell with what is put into it, where that is allowed there
 abbrev pub put_into : Cell → Option CellValue → Result (Cell × CellValue) ℕ
 put_into cell (Some value) = if is_ok (fits_of cell (content_of value)) then Ok (cell, value) else Err 3
 put_into cell None = Err 3
@@ -87,7 +88,7 @@ step_named object id value others =
     else if object == 6 then finish_wish id (number_in 1 1 value) others
     else Bad 2 2
 
--- a Set that goes on with a download: its id, then one step; without a second binding the first is the fault
+-- a Set that continues with a download: its id, then one step; without a second binding the first is the fault
 abbrev pub step_wish : Result ℕ ℕ → List Bind → Wish
 step_wish (Ok id) [] = Bad 2 1
 step_wish (Ok id) (second ∷ others) = step_named (download_object (name_at second.name.items)) id second.value others
@@ -97,7 +98,7 @@ step_wish (Err status) others = Bad status 1
 abbrev pub IsId : ℕ → Type 0
 IsId id = (1 ≤ id) × (id ≤ 2147483647)
 
--- there is such a cell, and the value may stand in it
+-- there is such a cell, and the value may be in it
 pub record IsPut (put : Cell × CellValue) : Type 0 where
   pub cell : IsCell put.0
   pub fits : fits_of put.0 (content_of put.1) ≡ Ok tt

@@ -25,7 +25,7 @@ counts_in s column p =
     else if column == 9 then has s.ped_calls p
     else not (shows s p Red)
 
--- so many phases from the first on as a number, the first in the least bit
+-- that many phases from the first on as a number, the first in the least bit
 abbrev pub bits : (ℕ → Bool) → ℕ → ℕ → ℕ
 bits test zero first = 0
 bits test (suc more) first = (if test first then 1 else 0) + 2 * bits test more (first + 1)

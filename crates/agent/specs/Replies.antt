@@ -64,7 +64,8 @@ abbrev pub with_values : Message → Result (List Bind) Fault → Message
 with_values m (Ok binds) = within_frame m (response m 0 0 binds)
 with_values m (Err fault) = repeated m fault.status fault.index
 
--- the status that tells what the download stage answered: 3 where the id or the part isn't the one due, 5 where it can't be done
+-- the status that says what the download stage answered: 3 where the id or the part isn't the expected one, 5 where it
+-- can't be done
 abbrev pub stage_status : StageAnswer → ℕ
 stage_status WrongToken = 3
 stage_status (WrongPart due) = 3
@@ -80,7 +81,7 @@ stage_index NotVerified = 2
 stage_index (Refused broken) = 2
 stage_index _ = 0
 
--- the Response to a Set, which tells what the stage answered where it was called
+-- the Response to a Set, which says what the stage answered where it was called
 abbrev pub told : Message → Option StageAnswer → Message
 told m (Some answer) = repeated m (stage_status answer) (stage_index answer)
 told m None = repeated m 0 0

@@ -14,7 +14,7 @@ use Rattle.oid_map.specs.Reading.{name_at}
 use Rattle.agent.specs.Seen.{Seen}
 use Rattle.agent.specs.Groups.{group_octet}
 
--- what stands in a cell, as a value
+-- what is in a cell, as a value
 abbrev pub content_value : Content → Value
 content_value (Number n) = Int (pos n)
 content_value (Octets octets) = OctetsValue (record { items = octets })
@@ -50,7 +50,7 @@ outcome_code (Some (WrongPart due)) = 6
 outcome_code (Some NotVerified) = 7
 outcome_code (Some (Refused broken)) = 8
 
--- the part that was due, or the rule that is broken
+-- the expected part, or the rule that is broken
 abbrev pub outcome_detail : Option StageAnswer → ℕ
 outcome_detail (Some (WrongPart due)) = due
 outcome_detail (Some (Refused broken)) = broken.rule
@@ -71,7 +71,7 @@ download_number s number =
     else if number == 10 then Some s.shown.version
     else None
 
--- the number that an instance which is no cell holds; None where it can only be written
+-- the number that an instance which is not a cell holds; None where it can only be written
 abbrev pub number_of : Seen → Name → Option ℕ
 number_of s (CellName cell) = None
 number_of s (Index table column row sub) = Some (if column == 2 then sub else row)

@@ -1,5 +1,5 @@
-//! What a frame asks: a Get, a GetNext, or a Set that gives orders or goes on with a download. A Set with a fault is answered
-//! with the first one.
+//! What a frame asks: a Get, a GetNext, or a Set that gives orders or continues with a download. A Set with a fault is
+//! answered with the first one.
 
 ghost use Rattle.std.specs.Prelude.{◌≡◌, ◌↔◌, [], IsTrue, IfSome, IfNone, OnSome, Some};
 ghost use Rattle.arrayvec.specs.ArrayVec.{array_vec_len};
@@ -46,7 +46,7 @@ pub enum Wish {
     Begin(u32),
     /// That this part, 1 to 60,000, of the download of this id is taken: the cells with what is put into them.
     Part(u32, u16, ArrayVec<(Cell, CellValue), 30>),
-    /// That the download of this id is verified, which has so many parts, 0 to 60,000.
+    /// That the download with this id, which has this number of parts, 0 to 60,000, is verified.
     Verify(u32, u16),
     /// That the download of this id is put in force.
     Finish(u32),

@@ -16,5 +16,5 @@ pub const NO_SUCH_NAME: u8 = 2;
 /// RFC 1157, 4.1.1: the value is of another type, or out of range.
 pub const BAD_VALUE: u8 = 3;
 
-/// RFC 1157, 4.1.1: it can't be done, for a reason that no other status tells.
+/// RFC 1157, 4.1.1: it can't be done, for a reason that no other status says.
 pub const GENERAL_ERROR: u8 = 5;

@@ -54,7 +54,7 @@ fn cell_value(value: &Value) -> Option<CellValue>
     }
 }
 
-/// A cell with what is put into it, where that may stand there; else the status of the fault.
+/// A cell with what is put into it, where that is allowed there; else the status of the fault.
 fn put_into(cell: Cell, value: &Value) -> Result<(Cell, CellValue), u8>
     requires { IsCell cell }
     ensures put { result ≡ put_into cell (cell_value value.now) }
@@ -77,7 +77,7 @@ fn put_in(bind: &Bind) -> Result<(Cell, CellValue), u8>
     }
 }
 
-/// What the bindings of a part put into cells, in order, or the first fault. The first stands at place 3.
+/// What the bindings of a part put into cells, in order, or the first fault. The first is at place 3.
 fn puts_in(binds: &[Bind]) -> Result<ArrayVec<(Cell, CellValue), 30>, Fault>
     requires { length binds.now ≤ 30 }
     ensures puts { listed result ≡ each_gives put_of 3 binds.now }

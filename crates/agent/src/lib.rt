@@ -1,4 +1,4 @@
-//! The agent of a cabinet: what a frame of management software asks (SNMP version 1, RFC 1157), and what is answered.
+//! The agent of a cabinet: what a message of management software asks (SNMP version 1, RFC 1157), and what is answered.
 //! An answer is a function of the tables in force, of what the cabinet shows, and of its download stage. Frames that
 //! aren't messages, are of another community, or are Responses are ignored. Nothing here takes memory.
 #![tactic(auto)]

@@ -142,7 +142,7 @@ fn reached(cabinet: &Cabinet, reach: Reach, m: &Message) -> Octets
     }
 }
 
-/// The status that tells what the download stage answered (RFC 1157, 4.1.1).
+/// The status that says what the download stage answered (RFC 1157, 4.1.1).
 fn stage_status(answer: StageAnswer) -> u8
     ensures status { result ≡ stage_status answer }
     ensures small { result < 128 }
@@ -166,7 +166,7 @@ fn stage_index(answer: StageAnswer) -> u8
     }
 }
 
-/// The Response to a Set, which tells what the download stage answered where it was called.
+/// The Response to a Set, which says what the download stage answered where it was called.
 fn told(m: &Message, outcome: Option<StageAnswer>) -> Octets
     requires writable { IsWritableMessage m.now }
     requires fits { length (shortest m.now) ≤ 1472 }

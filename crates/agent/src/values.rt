@@ -16,7 +16,7 @@ use sig_tables::CellValue;
 use sig_types::{Mode, StageAnswer};
 use snmp_msg::Value;
 
-/// What stands in a cell, as a value.
+/// What is in a cell, as a value.
 fn content_value(content: &CellValue) -> Value
     requires { IsShort (content_of content.now) }
     ensures { result ≡ content_value (content_of content.now) }
@@ -77,7 +77,7 @@ fn outcome_code(last: Option<StageAnswer>) -> u8
     }
 }
 
-/// The part that was due, or the rule that is broken; else 0.
+/// The part that was expected, or the rule that is broken; else 0.
 fn outcome_detail(last: Option<StageAnswer>) -> u16
     ensures { result ≡ outcome_detail last }
 {
@@ -114,7 +114,7 @@ fn download_number(cabinet: &Cabinet, number: u8) -> Option<u32>
     }
 }
 
-/// The number that an instance holds which is no cell. None where it can only be written.
+/// The number that an instance holds which is not a cell. None where it can only be written.
 fn number_of(cabinet: &Cabinet, name: Name) -> Option<u32>
     requires name { IsName name }
     requires within { IsWithin cabinet.now.shown.now }

@@ -6,7 +6,7 @@ use Rattle.io_edge.specs.declared.Failed.{Failed}
 use Rattle.trace_writer.proofs.Writing.{held_front, front_held}
 use Rattle.arterial.specs.Prints.{Prints}
 
--- a count that rose from where it had come to rose from where it was
+-- a count that rose from where it was rose from where it was
 rises-behind : (a b c : ℕ) → a ≤ b → Rises b c → Rises a c
 rises-behind a b c below (inl more) = inl (omega arith)
 rises-behind a b c below (inr last) = inr last

@@ -13,7 +13,7 @@ words_line words = words ++ 10 ∷ []
 abbrev pub named_line : List ℕ → List ℕ → List ℕ
 named_line words name = words ++ (name ++ 10 ∷ [])
 
--- the words, a number, and what comes behind it
+-- the words, a number, and what comes after it
 abbrev pub number_then : List ℕ → ℕ → List ℕ → List ℕ
 number_then words n rest = (words ++ decimal n) ++ rest
 

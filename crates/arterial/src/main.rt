@@ -1,5 +1,5 @@
-//! The program: the top call over the real words, standard input and standard output.
-//! What the status says goes to standard error, in one line, and to the shell, as the exit status.
+//! The program: the top call with the program's arguments, standard input and standard output. The text of the answer
+//! goes to standard error, in one line, and its number to the shell, as the exit status.
 #![tactic(auto)]
 
 ghost use Rattle.std.specs.Prelude.{◌≡◌};
@@ -30,7 +30,7 @@ fn code_of(status: &Status) -> u8
     }
 }
 
-/// The words behind the program's name. Words that aren't UTF-8 are no command.
+/// The words after the program's name. Words that aren't UTF-8 are not a command.
 fn words_of(rt: &HostRuntime) -> Result<Vec<String>, Status> {
     let args = match env::args(rt) {
         Ok(args) => args,

@@ -9,7 +9,7 @@ use itoa::Buffer;
 use station::{Refusal, Status};
 use trace_writer::put_all;
 
-/// The line for words that are no command.
+/// The line for words that are not a command.
 const USAGE: &str = "usage: arterial run [--workers N] | check | generate | survey\n";
 
 /// Prints a text.
@@ -96,7 +96,8 @@ fn print_refusal<K: Sink>(sink: &mut K, refusal: &Refusal) -> Result<(), Failed>
     }
 }
 
-/// Prints the line of an answer; nothing where all is done. It takes no memory. Where a write fails, a front of the line is printed.
+/// Prints the line of an answer; nothing where all is done. It takes no memory. Where a write fails, a prefix of the
+/// line is printed.
 pub fn report<K: Sink>(status: &Status, sink: &mut K) -> Result<(), Failed>
     ensures { Prints K.written K.faults result sink.old sink.new (report_line status.now) }
 {

@@ -87,7 +87,7 @@ members-drive section n first (c ∷ cabinets) h = split (members-drive section 
         )
     split later false k = behind c cabinets first n rest (later k)
 
--- where nothing stands against a band each cabinet defines the pattern
+-- where nothing prevents a band each cabinet defines the pattern
 all-defined : (n legs : ℕ) (ms : List Member) → misfit_along n legs ms ≡ None → all_define n ms ≡ true
 all-defined n legs [] h = refl
 all-defined n legs (m ∷ more) h = elim (cases_Bool (all_define n (m ∷ more))) [
@@ -156,7 +156,7 @@ module _ (proper : Proper) (text : List ℕ) (run : TellsOfRun text) where
       ∙ shown-by-frames has_line tells tick (past_at h).moments
       ∙ ap (λ (ms : List Moment). shown_by (last_frame ms)) (newest m tick (past_at h).moments at)
 
-  -- the history that a cabinet has come to opened with its own tables
+  -- the history that a cabinet has reached opened with its own tables
   opening-is : (cab : ℕ) (c : CabinetContent) (end : CabinetState) → IsCabinet run.scenario cab c
       → HasComeTo cab end 1 (cabinet_states_after run.scenario (opened_cabinet_states run.scenario run.scenario.cabinets) run.journals)
       → (history_of end.cabinet_history).tables ≡ opening_tables c

@@ -1,6 +1,5 @@
 //! Progression bands are green: along the street of a trace a vehicle inside a band meets green at each cabinet that is
-//! on offset as it passes (FHWA Signal Timing Manual: bandwidth). The function has no code: it represents the law of
-//! its contract.
+//! on offset as it passes (FHWA Signal Timing Manual: bandwidth). The function has no body: its contract is the law.
 #![tactic(auto)]
 
 ghost use Rattle.std.specs.Prelude.{ℕ, List};

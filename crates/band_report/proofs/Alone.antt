@@ -9,7 +9,7 @@ use Rattle.scenario_read.specs.Readers.{Answers, Refuses}
 use Rattle.scenario_cut.specs.Beginning.{IsNoNumber}
 use Rattle.band_report.specs.Parts.{number_alone}
 
--- of what is no number null is kept
+-- of what is not a number null is kept
 pub alone-null : (d : Data) → IsNoNumber d → number_alone d ≡ null
 alone-null null none = refl
 alone-null (boolean b) none = refl

@@ -106,7 +106,7 @@ driven-all n inbound travel cycle signals ms found place past driven = go driven
     go [] left arcs = sym (arcs ∙ append-nil found)
     go (m ∷ rest) left arcs = let e = sym none ∙ left in absurd (cc)
 
--- what stands where there can be a band
+-- what is where there can be a band
 pub record FitsAlong (n legs : ℕ) (ms : List Member) : Type 0 where
   pub some : 0 < first_cycle n ms
   pub any : 0 < length ms

@@ -45,7 +45,7 @@ name-first fail (object ms) h = refuses_more fail _ _ (refuses_more fail _ _ h)
 pub name-refused : (fail : ReadFail) (d v : Data) → v ≡ cut Outer d → Refuses fail (names_faults (names asked_shape.fields) [] v) → Refuses fail (band_faults d)
 name-refused fail d v is h = name-first fail d (refuses-same fail (names_faults (names asked_shape.fields) [] v) (names_faults (names asked_shape.fields) [] d) (names-in d v is) h)
 
--- null in place of a scenario has the fault of a scenario that doesn't stand
+-- null in place of a scenario has the fault of a scenario that isn't
 at-scenario : (fail : ReadFail) (o : Option Data) → Refuses fail (map inner_cause (faults (unwrap_or (either o None) null)))
     → Refuses fail (faults_of inner_scenario (then_named [] (codes "scenario")) (either o None))
 at-scenario fail None h = refuses-same fail (map inner_cause (faults null)) (fault_at (then_named [] (codes "scenario")) Wrong) refl h

@@ -102,7 +102,7 @@ module _ (bytes : List ℕ) (d v : Data) (reads : Reads bytes d) (is : v ≡ cut
   street-refused (Refused refusal) h = named bytes d reads refusal (subst (λ o. Names refusal o) same h)
   street-refused NoMemory h = tt
 
--- bytes that are no JSON have that as their first fault
+-- bytes that are not JSON have that as their first fault
 pub no-street : (bytes : List ℕ) (fail : ReadFail) → OnRefusal fail (IsNoText bytes) → OnRefusal fail (IsFirstBandFault bytes)
 no-street bytes (Refused refusal) none = subst (IsFirstBandFault bytes) (sym none.0) none.1
 no-street bytes NoMemory none = tt

@@ -20,7 +20,7 @@ least-above cycle width (a ∷ arcs) time few each =
     let rest : width ≤ left_of_all cycle arcs time = least-above cycle width arcs time few (λ j below. each (suc j) (omega arith)) in
     omega arith
 
--- a whole cycle is no time
+-- a whole cycle is not a time
 pub all-round-again : (cycle : ℕ) (arcs : List Arc) (time : ℕ) → left_of_all cycle arcs (time % cycle) ≡ left_of_all cycle arcs time
 all-round-again cycle [] time = refl
 all-round-again cycle (a ∷ arcs) time = rw (round-again cycle a time, all-round-again cycle arcs time) refl
@@ -82,7 +82,7 @@ goes-on cycle arcs time tick fit more = least-above cycle 1 arcs (time + tick) (
         left-later cycle (get_or arcs j no_arc) time tick (fit.greens j below) here in
         omega arith
 
--- an arc of which something is left at each of so many ticks leaves so much
+-- an arc of which something is left at each of that many ticks leaves that much
 one-stays : (cycle : ℕ) (a : Arc) (time width : ℕ) → a.green < cycle → ((tick : ℕ) → tick < width → 0 < left cycle a (time + tick)) → width ≤ left cycle a time
 one-stays cycle a time width part shown = split (nat_le width (left cycle a time)) refl
   where
@@ -102,7 +102,7 @@ one-stays cycle a time width part shown = split (nat_le width (left cycle a time
     split true h = leb-true _ _ h
     split false h = absurd (ended (leb-false _ _ h) (nat_lt 0 (left cycle a time)) refl)
 
--- arcs of all of which something is left at each of so many ticks leave so much
+-- arcs of all of which something is left at each of that many ticks leave that much
 pub stays : (cycle : ℕ) (arcs : List Arc) (time width : ℕ) → FitCycle cycle arcs → width ≤ cycle → ((tick : ℕ) → tick < width → 0 < left_of_all cycle arcs (time + tick))
     → width ≤ left_of_all cycle arcs time
 stays cycle arcs time width fit few shown =

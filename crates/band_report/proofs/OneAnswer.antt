@@ -1,4 +1,4 @@
--- Bytes ask of bands, and are told of in one way, or have a first fault, and never both.
+-- Bytes ask of bands, and are reported of in one way, or have a first fault, and never both.
 use Rattle.std.proofs.Common.{◌≡◌, ◌≤◌, ◌<◌, ◌+◌, ◌-◌, ℕ, List, true, false, Option, Some, None, sym, ap, ◌∙◌, subst, refl, arith}
 use Rattle.serde_json.specs.Data.{Data}
 use Rattle.scenario_data.specs.declared.refusal.Refusal.{Refusal}

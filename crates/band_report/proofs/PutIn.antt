@@ -42,7 +42,7 @@ answer-kept : {A : Type 0} (f : Field) (answer : Result A ReadFail) (Says : A �
 answer-kept f answer Says name d ms differ h =
     subst (λ (o : Option Data). Answers answer (faults_of f.kind (then_named [] f.name) o) (λ a. Says a (unwrap_or o null))) (sym (other-value f name d ms differ)) h
 
--- ---- what stands as a scenario and is no object
+-- ---- what is given as a scenario and is not an object
 
 none-read : (fail : ReadFail) (d : Data) → IsNoObject d → Refuses fail (fault_at (then_named [] (codes "scenario")) Wrong) → Refuses fail (inner_scenario (then_named [] (codes "scenario")) d)
 none-read fail null none h = refuses-same fail (fault_at (then_named [] (codes "scenario")) Wrong) (map inner_cause (faults null)) refl h
@@ -70,7 +70,7 @@ module _ (old : Parts) (ms : Members) (d : Data) (stand : PartsStand old ms) whe
       → PartsStand (record { scenario = Ok s; section = old.section; pattern = old.pattern; travel = old.travel }) (put (codes "scenario") d ms)
   scenario-right s clean said few = scenario-put (Ok s) (ap (map inner_cause) clean, (ap (λ (c : ScenarioContent). c.cabinets) said, few))
 
-  -- what is no scenario
+  -- what is not a scenario
   pub scenario-none : (fail : ReadFail) → IsNoObject d → Refuses fail (fault_at (then_named [] (codes "scenario")) Wrong)
       → PartsStand (record { scenario = Err fail; section = old.section; pattern = old.pattern; travel = old.travel }) (put (codes "scenario") d ms)
   scenario-none fail none h = scenario-put (Err fail) (none-read fail d none h)

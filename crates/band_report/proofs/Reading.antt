@@ -56,7 +56,7 @@ pub record Gathered (section n : ℕ) (inbound : Bool) (all : List Cabinet) (fou
 pub gathered_none : (section n : ℕ) (inbound : Bool) (all : List Cabinet) → Gathered section n inbound all [] 0
 gathered_none section n inbound all = record { is = refl }
 
--- a cabinet of the section stands before the rest of it, and another does not count
+-- a cabinet of the section is before the rest of it, and another does not count
 one-in : (section number : ℕ) (c : CabinetContent) (more : List CabinetContent) → (c.section == section) ≡ true
     → members_from section number (c ∷ more) ≡ record { number = number; tables = opening_tables c } ∷ members_from section (number + 1) more
 one-in section number c more h = rw h refl
@@ -97,7 +97,7 @@ pub gathered_all : (section n : ℕ) (inbound : Bool) (all : List Cabinet) (foun
 gathered_all section n inbound all found i past g =
     sym (g.is ∙ ap (λ (xs : List Cabinet). found ++ map (signal_of n inbound) (members_from section (i + 1) (map cabinet_content xs))) (drop_all i all past) ∙ append-nil found)
 
--- what is read of cabinets tells which of them define the pattern, and which have a cycle
+-- what is read of cabinets says which of them define the pattern, and which have a cycle
 pub defined-read : (n : ℕ) (inbound : Bool) (ms : List Member) → list_all (λ s. s.defined) (map (signal_of n inbound) ms) ≡ all_define n ms
 unfolding signal_of
 defined-read n inbound ms = list_all-map (λ s. s.defined) (signal_of n inbound) ms

@@ -28,7 +28,7 @@ finds-is n r cycle c time own =
         let e : time + after + shift + behind ≡ time + (after + shift + behind) = omega arith in
         ap (λ (x : ℕ). x % own) e ∙ sym (add-mod-mod time (after + shift + behind) own)
 
--- both are above 0 where their lesser is
+-- both are above 0 where their smaller is
 both-above : (u g m : ℕ) → (nat_lt u g && nat_lt 0 m) ≡ nat_lt 0 (min (g - u) m)
 both-above u g m = split (nat_lt u g) (nat_lt 0 m) refl refl
   where
@@ -68,7 +68,7 @@ first-is n r cycle (c ∷ street) time each closed = split (finds_window n r tim
     split false true e h rest = absurd (cc)
     split false false e h rest = ap Some (sym (arc-number n r c))
 
--- a band is no wider than what is left from its start on
+-- a band is at most as wide as what is left from its start on
 band-left : (n r cycle : ℕ) (street : List Passage) (start width : ℕ) → EachCycle n cycle street → FitCycle cycle (map (arc_of n r) street) → IsBand n r street cycle start width
     → width ≤ left_of_all cycle (map (arc_of n r) street) start
 band-left n r cycle street start width each fit band = stays cycle (map (arc_of n r) street) start width fit (omega (arith, band.fewer)) there

@@ -17,7 +17,7 @@ use Rattle.band_report.specs.declared.legs.Legs.{Legs}
 use Rattle.band_report.specs.Asked.{list_of_any}
 use Rattle.band_report.specs.Parts.{AreLegs}
 
--- what is no list is of the wrong kind
+-- what is not a list is of the wrong kind
 pub no-array : (d : Data) → IsNoList d → array_fits d ≡ Wrong
 no-array null none = refl
 no-array (boolean b) none = refl
@@ -39,7 +39,7 @@ times-more ds d n is = each-more (whole 0 864000) path d n ds 0 (omega (arith, i
 as-many : (found : List ℕ) (ds : Items) → found ≡ each_of whole_of ds → length found ≡ items_len ds
 as-many found ds is = ap length is ∙ each_of-len whole_of ds
 
--- an item behind a fault
+-- an item after a fault
 pub behind-fault : (legs : Legs) (ds : Items) (d : Data) → is_some legs.refusal ≡ true → AreLegs legs ds → AreLegs legs (both ds (item d no_items))
 behind-fault legs ds d some h = at legs.refusal some h
   where
@@ -62,7 +62,7 @@ module _ (old new : Legs) (ds : Items) (d : Data) (none : is_some old.refusal �
   all : times_faults (both ds (item d no_items)) ≡ here
   all = times-more ds d (length old.found.items) (as-many old.found.items ds clean.1) ∙ ap (λ causes. causes ++ here) clean.0
 
-  -- a time without a fault, behind others
+  -- a time without a fault, after others
   pub time-read : (ticks : ℕ) → new.refusal ≡ old.refusal → new.found.items ≡ old.found.items ++ ticks ∷ [] → here ≡ [] → ticks ≡ whole_of d → AreLegs new (both ds (item d no_items))
   time-read ticks same pushed fits says =
       let still : new.refusal ≡ None = same ∙ no-refusal old.refusal none in
@@ -81,6 +81,6 @@ module _ (old new : Legs) (ds : Items) (d : Data) (none : is_some old.refusal �
       subst (λ (o : Option ReadFail). Tells o (times_faults (both ds (item d no_items))) (new.found.items ≡ each_of whole_of (both ds (item d no_items)))) (sym is)
       (subst (Refuses fail) (sym all) h)
 
--- what is no list
+-- what is not a list
 pub no-list : (fail : ReadFail) (kind : Kind) (at : List Step) (d : Data) → array_fits d ≡ Wrong → Refuses fail (fault_at at Wrong) → Refuses fail (list_of_any kind at d)
 no-list fail kind at d is h = refuses_more fail (fault_at at (array_fits d)) (each kind at 0 (items_in d)) (subst (λ fit. Refuses fail (fault_at at fit)) (sym is) h)

@@ -11,17 +11,17 @@ once-round cycle x some few =
     let rest : x - cycle < cycle = omega arith in
     mod-eq-sub-mod some ∙ mod-eq_of_lt rest
 
--- so many ticks later it is so much further
+-- that many ticks later it is that much further
 pub further : (cycle : ℕ) (a : Arc) (time tick : ℕ) → into cycle a (time + tick) ≡ (into cycle a time + tick) % cycle
 further cycle a time tick =
     let same : time + tick + a.lead ≡ time + a.lead + tick = omega arith in
     ap (λ (x : ℕ). x % cycle) same ∙ sym (mod-add-mod (time + a.lead) cycle tick)
 
--- a whole cycle is no time
+-- a whole cycle is not a time
 pub round-again : (cycle : ℕ) (a : Arc) (time : ℕ) → into cycle a (time % cycle) ≡ into cycle a time
 round-again cycle a time = mod-add-mod time cycle a.lead
 
--- so many ticks later, where more is left, so much less is left
+-- that many ticks later, where more is left, that much less is left
 pub left-later : (cycle : ℕ) (a : Arc) (time tick : ℕ) → a.green < cycle → tick < left cycle a time → left cycle a (time + tick) ≡ left cycle a time - tick
 left-later cycle a time tick part more =
     let inside : into cycle a time + tick < cycle = omega arith in
@@ -36,7 +36,7 @@ left-ends cycle a time part some =
     further cycle a time (left cycle a time) ∙ ap (λ (u : ℕ). u % cycle) whole ∙ mod-eq_of_lt part in
     ap (λ (u : ℕ). a.green - u) there ∙ omega arith
 
--- a time is so long behind the start of an arc as it is far into it
+-- the time from the start of an arc is how far a time is into it
 pub behind-start : (cycle : ℕ) (a : Arc) (time : ℕ) → a.lead < cycle → time < cycle → (start_of cycle a + into cycle a time) % cycle ≡ time
 behind-start cycle a time lead few =
     let whole : cycle - a.lead + (time + a.lead) ≡ cycle + time = omega arith in
@@ -53,7 +53,7 @@ at-start cycle a time some lead few none =
     let alone : start_of cycle a + into cycle a time ≡ start_of cycle a = omega (arith, none) in
     sym (ap (λ (x : ℕ). x % cycle) alone ∙ mod-eq_of_lt below) ∙ behind-start cycle a time lead few
 
--- at the start of the arc that was entered last, so much more is left of each
+-- at the start of the arc that was entered last, that much more is left of each
 pub more-at-start : (cycle : ℕ) (a b : Arc) (time : ℕ) → 0 < cycle → a.lead < cycle → time < cycle → into cycle a time ≤ into cycle b time → 0 < left cycle b time
     → left cycle b time + into cycle a time ≤ left cycle b (start_of cycle a)
 more-at-start cycle a b time some lead few last shown =

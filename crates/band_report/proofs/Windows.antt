@@ -1,4 +1,4 @@
--- A window is a set of times: so many behind the offset less the shift, round the cycle.
+-- A window is a set of times: that many after the offset less the shift, round the cycle.
 use Rattle.std.proofs.Common.{◌≡◌, ◌∙◌, ℕ, ◌+◌, ◌-◌, ◌*◌, ◌/◌, ◌%◌, ◌<◌, true, nat_lt, sym, ap, arith}
 use Rattle.std.proofs.lemmas.Bool.{ltb-true, lt-ltb}
 use Rattle.std.proofs.Math.Nat.{mod-add-mod, add-mod-mod, mod-eq_of_lt, add-mul-mod_self_left, div-add-mod}
@@ -24,7 +24,7 @@ window-is t n r time some h = record {
       ∙ offset-round (cycle_time t n) (offset_time t n) (time + shift_time t n) some);
 }
 
--- where the counter is to stand then
+-- where the counter is to be then
 counted : (cycle offset counter x : ℕ) → 0 < cycle → counter < cycle → x % cycle ≡ (offset + counter) % cycle → (x + (cycle - offset % cycle)) % cycle ≡ counter
 counted cycle offset counter x some few e =
     let order : offset + counter + (cycle - offset % cycle) ≡ offset + (counter + (cycle - offset % cycle)) = omega arith in

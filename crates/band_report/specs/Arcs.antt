@@ -27,7 +27,7 @@ signal_of n inbound m = record {
 abbrev pub no_signal : Signal
 no_signal = record { number = 0; defined = false; cycle = 0; offset = 0; shift = 0; green = 0 }
 
--- why there can be no band along cabinets of which this is read, with so many travel times
+-- why there can be no band along cabinets of which this is read, with that many travel times
 abbrev pub misfit_read : ℕ → List Signal → Option Misfit
 misfit_read legs signals =
     if length signals == 0 then Some NoCabinet else
@@ -35,7 +35,7 @@ misfit_read legs signals =
     if not (list_all (λ s. s.cycle == (get_or signals 0 no_signal).cycle) signals) then Some Cycles else
     if legs == length signals - 1 then None else Some Legs
 
--- the arc of a cabinet as it is passed: where the counter is to stand when a vehicle of time 0 passes, and the force point
+-- the arc of a cabinet as it is passed: where the counter is to be when a vehicle of time 0 passes, and the force point
 unfoldable pub arc_of : ℕ → ℕ → Passage → Arc
 arc_of n r c = record {
   number = c.number;
@@ -81,8 +81,8 @@ abbrev pub better : Span → Span → Span
 better best found =
     if nat_lt best.width found.width || (best.width == found.width && nat_lt found.start best.start) then found else best
 
--- of the starts of the first arcs, so many, and of time 0, none leaves more of all arcs than this time, and none that leaves as
--- much is earlier
+-- of the starts of the first arcs, that many, and of time 0, none leaves more of all arcs than this time, and none that
+-- leaves as much is earlier
 pub record BestOf (cycle : ℕ) (arcs : List Arc) (many start width : ℕ) : Type 0 where
   pub starts : start < cycle
   pub is : width ≡ left_of_all cycle arcs start

@@ -16,7 +16,7 @@ use Rattle.band_report.specs.Street.{misfit_of}
 abbrev pub list_of_any : Kind → Kind
 list_of_any kind path d = fault_at path (array_fits d) ++ each kind path 0 (items_in d)
 
--- the names behind the scenario's
+-- the names after the scenario's
 abbrev pub section : Field
 section = needed_whole (codes "section") 1 8
 
@@ -36,7 +36,7 @@ cabinets_asked d = cabinets_of (held scenario d)
 abbrev pub travel_asked : Data → List ℕ
 travel_asked d = list_in whole_of (held travel d)
 
--- the fault of what stands against any band
+-- the fault of what prevents any band
 abbrev pub misfit_cause : Misfit → Cause
 misfit_cause NoCabinet = Limit (codes "section")
 misfit_cause Undefined = Limit (codes "pattern")
@@ -47,7 +47,7 @@ abbrev pub misfit_causes : Option Misfit → List Cause
 misfit_causes None = []
 misfit_causes (Some misfit) = misfit_cause misfit ∷ []
 
--- all faults: those of the names and what stands there, then what stands against any band
+-- all faults: those of the names and what is there, then what prevents any band
 abbrev pub band_faults : Data → List Cause
 band_faults d =
     object_of asked_shape [] d

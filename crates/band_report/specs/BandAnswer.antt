@@ -1,4 +1,4 @@
--- What is told of an object that asks of bands: two lines, or its first fault.
+-- What is reported of an object that asks of bands: two lines, or its first fault.
 use Rattle.std.specs.Prelude.{ℕ, ◌≡◌, List, [], ◌++◌, codes, decimal, false, true, Bool, Option, Some, None}
 use Rattle.serde_json.specs.Data.{Data}
 use Rattle.scenario_data.specs.declared.refusal.Refusal.{Refusal}
@@ -24,13 +24,13 @@ band_text (Some b) =
 abbrev pub two_lines : Option Band → Option Band → List ℕ
 two_lines outbound inbound = codes "outbound " ++ (band_text outbound ++ (codes "\ninbound " ++ (band_text inbound ++ codes "\n")))
 
--- what there is to tell of a way along the street that an object asks of
+-- what there is to say about a way along the street that an object asks of
 abbrev pub IsTold : Data → Bool → Option Band → Type 0
 IsTold d inbound report =
     IsReport (number_at pattern d) (ring_driven inbound) (passages (cabinets_asked d) (number_at section d) (travel_asked d) inbound)
     (cycle_of (cabinets_asked d) (number_at section d) (number_at pattern d)) report
 
--- the text tells the widest band of each way along the street that an object asks of
+-- the text gives the widest band of each way along the street that an object asks of
 pub record TellsOf (d : Data) (text : List ℕ) : Type 0 where
   pub outbound : Option Band
   pub inbound : Option Band
@@ -42,7 +42,7 @@ pub record TellsOf (d : Data) (text : List ℕ) : Type 0 where
 abbrev pub AsksOfBands : List ℕ → Type 0
 AsksOfBands bytes = (d : Data) × Reads bytes d × (band_faults d ≡ [])
 
--- the text tells the widest bands of the object that the bytes are, which has no fault
+-- the text gives the widest bands of the object that the bytes are, which has no fault
 abbrev pub TellsBands : List ℕ → List ℕ → Type 0
 TellsBands bytes text = (d : Data) × Reads bytes d × (band_faults d ≡ []) × TellsOf d text
 

@@ -7,12 +7,12 @@ use Rattle.sig_tables.specs.Clock.{offset_time, shift_time, target_at}
 use Rattle.band_report.specs.declared.band.Band.{Band}
 use Rattle.band_report.specs.Street.{Passage}
 
--- the coordinated phase of ring r has this time in its window: where the counter is to stand then, it has not reached the
+-- the coordinated phase of ring r has this time in its window: where the counter is to be then, it has not reached the
 -- phase's force point
 abbrev pub in_window : Tables → ℕ → ℕ → ℕ → Bool
 in_window t n r time = nat_lt (target_at t n time) (force_point t n (coordinated_phase t n r))
 
--- the time lies so many ticks, fewer than its force point, behind the offset less the shift, round the cycle
+-- the time lies that many ticks, fewer than its force point, after the offset less the shift, round the cycle
 pub record InWindow (t : Tables) (n r time : ℕ) : Type 0 where
   pub counter : ℕ
   pub below : counter < force_point t n (coordinated_phase t n r)
@@ -32,15 +32,15 @@ abbrev pub first_closed : ℕ → ℕ → List Passage → ℕ → Option ℕ
 first_closed n r [] time = None
 first_closed n r (c ∷ more) time = if finds_window n r time c then first_closed n r more time else Some c.number
 
--- a band: from a time of the cycle on, so many ticks that are all open, fewer than the cycle has
+-- a band: from a time of the cycle on, that many ticks that are all open, fewer than the cycle has
 pub record IsBand (n r : ℕ) (street : List Passage) (cycle start width : ℕ) : Type 0 where
   pub starts : start < cycle
   pub some : 0 < width
   pub fewer : width < cycle
   pub all_open : (tick : ℕ) → tick < width → is_open n r street (start + tick) ≡ true
 
--- the greatest band: no band is wider, and none as wide starts earlier. It can be widened at neither end: these cabinets, the
--- first that lack the time just before it and the one just behind it, stand in its way
+-- the widest band: no band is wider, and none as wide starts earlier. It can be widened at neither end: these cabinets,
+-- the first that lack the time just before it and the one just after it, are in its way
 pub record IsGreatest (n r : ℕ) (street : List Passage) (cycle : ℕ) (band : Band) : Type 0 where
   pub is : IsBand n r street cycle band.start band.width
   pub widest : (start width : ℕ) → IsBand n r street cycle start width → width ≤ band.width
@@ -48,7 +48,7 @@ pub record IsGreatest (n r : ℕ) (street : List Passage) (cycle : ℕ) (band : 
   pub before : first_closed n r street (band.start + cycle - 1) ≡ Some band.before
   pub after : first_closed n r street (band.start + band.width) ≡ Some band.after
 
--- what is told of a street: its greatest band, or none where no time is open
+-- what is reported of a street: its widest band, or none where no time is open
 abbrev pub IsReport : ℕ → ℕ → List Passage → ℕ → Option Band → Type 0
 IsReport n r street cycle None = (time : ℕ) → time < cycle → is_open n r street time ≡ false
 IsReport n r street cycle (Some band) = IsGreatest n r street cycle band

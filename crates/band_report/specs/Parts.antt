@@ -18,7 +18,7 @@ use Rattle.band_report.specs.Asked.{section, pattern, travel, travel_asked, aske
 
 -- ---- values
 
--- what is kept where only a number may stand: null stands for anything else
+-- what is kept where only a number may be: null represents anything else
 abbrev pub number_alone : Data → Data
 number_alone null = null
 number_alone (boolean b) = null
@@ -34,7 +34,7 @@ AreLegs legs ds =
 
 -- ---- the four names
 
--- the answer to what stands at a name of the object of these members
+-- the answer to what is at a name of the object of these members
 abbrev pub AnswersAt : {A : Type 0} → Field → Result A ReadFail → (A → Data → Type 0) → Members → Type 0
 AnswersAt field answer Says ms = Answers answer (field_faults [] (object ms) field) (λ a. Says a (held field (object ms)))
 
@@ -60,7 +60,7 @@ Puts old new name d = (ms : Members) → PartsStand old ms → PartsStand new (p
 
 -- ---- an object that is kept
 
--- the names beside the scenario's
+-- the names in addition to the scenario's
 abbrev pub beside_fields : List Field
 beside_fields = section ∷ pattern ∷ travel ∷ []
 

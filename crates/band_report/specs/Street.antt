@@ -26,8 +26,8 @@ members_from section number (c ∷ more) =
 abbrev pub members : List CabinetContent → ℕ → List Member
 members cabinets section = members_from section 1 cabinets
 
--- how long after the first cabinet that it passes a vehicle passes the one at this place, counted from 0: outbound the legs up
--- to there; inbound, where it passes the last cabinet first, the legs behind there
+-- how long after the first cabinet that it passes a vehicle passes the one at this place, counted from 0: outbound the
+-- legs up to there; inbound, where it passes the last cabinet first, the legs after there
 abbrev pub passed_after : Bool → List ℕ → ℕ → ℕ
 passed_after inbound travel place = if inbound then sum (drop place travel) else sum (take place travel)
 
@@ -65,7 +65,7 @@ abbrev pub first_cycle : ℕ → List Member → ℕ
 first_cycle pattern [] = 0
 first_cycle pattern (m ∷ more) = cycle_time m.tables pattern
 
--- why there can be no band along these cabinets, with so many travel times: the first of the reasons, if there is one
+-- why there can be no band along these cabinets, with that many travel times: the first of the reasons, if there is one
 abbrev pub misfit_along : ℕ → ℕ → List Member → Option Misfit
 misfit_along pattern legs [] = Some NoCabinet
 misfit_along pattern legs (m ∷ more) =

@@ -18,7 +18,7 @@ pub struct Arc {
     pub green: u32,
 }
 
-/// A time of the cycle so many ticks later, round the cycle.
+/// A time of the cycle that many ticks later, round the cycle.
 pub(crate) fn turned(time: u32, ticks: u32, cycle: u32) -> u32
     requires some { 0 < cycle }
     ensures is { result ≡ (time + ticks) % cycle }
@@ -61,7 +61,7 @@ fn lead_of(signal: &Signal, after: u32, cycle: u32) -> u32
     ((u64::from(after) + u64::from(signal.shift) + u64::from(behind)) % u64::from(cycle)) as u32
 }
 
-/// The window of a cabinet that is passed so long after the first, round the cycle.
+/// The window of a cabinet that is passed this long after the first one, modulo the cycle.
 fn arc_at(signal: &Signal, after: u32, cycle: u32) -> Arc
     requires some { 0 < cycle }
     ensures { (n : ℕ) (inbound : Bool) (c : Passage) → signal.now ≡ signal_of n inbound (record { number = c.number; tables = c.tables })

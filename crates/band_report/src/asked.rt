@@ -58,7 +58,7 @@ fn named(path: String, unfit: Unfit) -> ReadFail
     }
 }
 
-/// The refusal of a travel time, of which the first stands at place 0.
+/// The refusal of a travel time, of which the first is at place 0.
 fn refuse_leg(alloc: Global, leg: usize, unfit: Unfit) -> ReadFail
     ensures { Refuses result (fault_at (then_item (Named (codes "travel") ∷ []) leg) (fit_of unfit)) }
 {
@@ -110,7 +110,7 @@ fn travel_at(alloc: Global, object: &Value) -> Result<Vec<u32>, ReadFail>
     }
 }
 
-/// What stands beside the scenario.
+/// What is next to the scenario.
 #[derive(Drop)]
 pub(crate) struct Beside {
     pub section: u8,
@@ -118,7 +118,7 @@ pub(crate) struct Beside {
     pub travel: Vec<u32>,
 }
 
-/// What the names beside the scenario's say.
+/// What the names in addition to the scenario's say.
 pub(crate) fn beside_in(alloc: Global, object: &Value) -> Result<Beside, ReadFail>
     ensures { Answers result (fields_faults (steps_of Place.Top) (view object.now) beside_fields) (λ beside. SaysBeside beside (view object.now)) }
 {
@@ -132,7 +132,7 @@ pub(crate) fn beside_in(alloc: Global, object: &Value) -> Result<Beside, ReadFai
     })
 }
 
-/// Refuses what is no object, and the least name, by bytes, that may not stand there.
+/// Refuses what is not an object, and the least name, by bytes, that may not be there.
 pub(crate) fn names_known(alloc: Global, object: &Value) -> Result<(), ReadFail>
     ensures { Answers result (names_faults (names asked_shape.fields) (steps_of Place.Top) (view object.now)) (λ _. Unit {0}) }
 {
@@ -171,7 +171,7 @@ fn named_in(alloc: Global, value: &Value) -> Result<Asked, ReadFail>
     }
 }
 
-/// The refusal of what stands against any band.
+/// The refusal of what prevents any band.
 fn refuse_misfit(alloc: Global, misfit: Misfit) -> ReadFail
     ensures { Refuses result (misfit_causes (Some misfit)) }
 {
@@ -183,7 +183,7 @@ fn refuse_misfit(alloc: Global, misfit: Misfit) -> ReadFail
     }
 }
 
-/// Refuses what stands against any band.
+/// Refuses what prevents any band.
 pub(crate) fn fitting(alloc: Global, asked: &Asked) -> Result<(), ReadFail>
     requires few { length asked.now.scenario.cabinets.items ≤ 64 }
     ensures { Answers result (misfit_causes (misfit_of (scenario_content asked.now.scenario).cabinets asked.now.section asked.now.pattern (length asked.now.travel.items)))

@@ -66,8 +66,8 @@ fn asked_in_parts(alloc: Global, parts: Parts) -> Result<Asked, ReadFail>
     Ok(asked)
 }
 
-/// What the bytes ask, or their first fault, in little memory, where so many of their names come. Want of memory stands also for what
-/// this way does not tell.
+/// What the bytes ask, or their first fault, in little memory, where their names appear this often. Lack of memory is
+/// also the answer for what this way does not say.
 pub(crate) fn asked_by_parts(alloc: Global, bytes: &[u8], left: FileLeft) -> Result<Asked, ReadFail>
     ensures read { IfOk result (λ a. (d : Data) × Reads bytes.now d × (band_faults d ≡ []) × Says a d) }
     ensures refused { IfErr result (λ fail. OnRefusal fail (IsFirstBandFault bytes.now)) }

@@ -10,8 +10,8 @@ use scenario_cut::{Form, inner_fault, kept_of_few};
 use scenario_data::ReadFail;
 use std::alloc::Global;
 
-/// The first fault of the bytes: that they are no JSON, of a name, or of the scenario, whose lists are judged item by item. Want of
-/// memory stands also for what this way does not tell.
+/// The first fault of the bytes: that they are not JSON, of a name, or of the scenario, whose lists are judged item by
+/// item. Lack of memory is also the answer for what this way does not say.
 pub(crate) fn first_fault(alloc: Global, bytes: &[u8]) -> Result<(), ReadFail>
     ensures { IfErr result (λ fail. OnRefusal fail (IsFirstBandFault bytes.now)) }
 {

@@ -1,5 +1,5 @@
 //! The travel times of an object that asks of bands, read from its text one by one: of each no more is kept than its
-//! ticks, and behind the first fault of one they are skipped.
+//! ticks, and after the first fault of one they are skipped.
 
 ghost use Rattle.std.specs.Prelude.{◌≡◌, ◌<◌, codes, length, Some, IfSome};
 ghost use Rattle.json.specs.Json.{value, items};
@@ -43,7 +43,7 @@ fn next_leg(
     Some(leg_in(alloc, &value, place))
 }
 
-/// Reads one more item, nested at most so deep, behind those before; or skips it behind a fault.
+/// Reads one more item, nested at most so deep, after those before; or skips it after a fault.
 fn one_more(alloc: Global, reader: &mut Reader<'_>, depth: usize, legs: &mut Legs) -> Option<()>
     ensures ok { IfSome result (λ _. (d : Data) × (converted of_json (value depth reader.old) ≡ Some (d, reader.new))
         × ((ds : Items) → AreLegs legs.old ds → AreLegs legs.new (both ds (item d no_items)))) }
@@ -93,7 +93,7 @@ fn legs_of(
     }
 }
 
-/// The refusal of what stands as travel times and is no list.
+/// The refusal of what is given as travel times and is not a list.
 fn no_list(alloc: Global) -> ReadFail
     ensures { (d : Data) → array_fits d ≡ Wrong → Refuses result (travel.kind (then_named (steps_of Place.Top) (codes "travel")) d) }
 {

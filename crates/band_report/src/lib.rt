@@ -1,6 +1,7 @@
-//! Through bands of a section: the widest span of the cycle in which a vehicle meets green at each cabinet, both ways along the
-//! street (FHWA Signal Timing Manual: bandwidth); what is asked of them as a JSON object (RFC 8259), and the two lines that
-//! answer. Bands are found from the windows of the cabinets, each an arc of the cycle; no time of the cycle is tried one by one.
+//! Progression bands of a section: the widest span of the cycle in which a vehicle meets green at each cabinet, both
+//! ways along the street (FHWA Signal Timing Manual: bandwidth); the question as a JSON object (RFC 8259), and the two
+//! lines of the answer. Bands are computed from the windows of the cabinets, each an arc of the cycle, without trying
+//! each time of the cycle.
 #![tactic(auto)]
 
 mod arcs;
@@ -26,8 +27,8 @@ pub use file_laws::{bytes_have_one_answer, limits_have_names};
 pub use misfit::{Misfit, misfit_of};
 pub use told::report;
 
-/// A law: a window is the set of times that lie fewer ticks than its force point behind the offset less the shift, round the
-/// cycle.
+/// A law: a window is the set of times that lie fewer ticks than its force point after the offset less the shift, round
+/// the cycle.
 pub fn windows_are_times()
     ensures { (t : Tables) (n r time : ℕ) → 0 < cycle_time t n → IsTrue (in_window t n r time) ↔ InWindow t n r time }
 {}

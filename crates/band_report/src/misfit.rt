@@ -1,4 +1,4 @@
-//! What stands against any band along a section.
+//! What prevents any band along a section.
 
 ghost use Rattle.std.specs.Prelude.{◌≡◌, ◌≤◌, IfOk, length};
 ghost use Rattle.scenario_data.specs.Content.{scenario_content};

@@ -12,7 +12,7 @@ use json::{Reader, Token};
 use scenario_cut::{number_of, pass_rest};
 use serde_json::Value;
 
-/// The next value of the reader, nested at most so deep, where only a number may stand.
+/// The next value of the reader, nested at most so deep, where only a number may be.
 pub(crate) fn number_alone(reader: &mut Reader<'_>, depth: usize) -> Option<Value>
     ensures ok { IfSome result (λ v. (d : Data) × (converted of_json (value depth reader.old) ≡ Some (d, reader.new)) × (view v ≡ number_alone d)) }
     ensures shorter { IfSome result (λ _. length reader.new < length reader.old) }

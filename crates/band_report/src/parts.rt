@@ -21,7 +21,8 @@ use scenario_read::{Place, Unfit, refuse_member, whole_of};
 use std::alloc::Global;
 use std::mem::replace;
 
-/// What the value at each of the four names says, or its first fault; the fault of a name that must stand, where none stands there.
+/// What the value at each of the four names says, or its first fault; the fault of a name that must be, where none is
+/// there there.
 #[derive(Drop)]
 pub(crate) struct Parts {
     pub scenario: Result<Scenario, ReadFail>,
@@ -30,7 +31,8 @@ pub(crate) struct Parts {
     pub travel: Result<Vec<u32>, ReadFail>,
 }
 
-/// Reads the scenario, of whose large names so many come: gives up at one that is not right. The parts of its text are left out.
+/// Reads the scenario, whose large names appear this often: gives up at one that is not right. The parts of its text
+/// are left out.
 fn right_scenario(
     alloc: Global,
     reader: &mut Reader<'_>,
@@ -48,7 +50,7 @@ fn right_scenario(
     Some(())
 }
 
-/// Reads what stands as a scenario and is no object, which is its fault: gives up at an object.
+/// Reads what is given as a scenario and is not an object, which is its fault: gives up at an object.
 fn no_scenario(alloc: Global, reader: &mut Reader<'_>, parts: &mut Parts) -> Option<()>
     ensures ok { IfSome result (λ _. (d : Data) × (converted of_json (value 126 reader.old) ≡ Some (d, reader.new)) × Puts parts.old parts.new (codes "scenario") d) }
     ensures shorter { IfSome result (λ _. length reader.new < length reader.old) }
@@ -72,7 +74,7 @@ fn begins_object(file: &[u8], place: usize) -> bool {
     place < file.len() && file[place] == b'{'
 }
 
-/// Reads what stands as the scenario, of whose large names so many come: gives up at an object that is not right.
+/// Reads what is given as the scenario, whose large names appear this often: gives up at an object that is not right.
 fn scenario_member(
     alloc: Global,
     reader: &mut Reader<'_>,
@@ -90,7 +92,7 @@ fn scenario_member(
     }
 }
 
-/// Reads the number that stands at a name, from 1 to a most.
+/// Reads the number that is at a name, from 1 to a most.
 fn number_at(
     alloc: Global,
     reader: &mut Reader<'_>,
@@ -142,7 +144,7 @@ fn travel_member(alloc: Global, reader: &mut Reader<'_>, parts: &mut Parts) -> O
 impl<'a> OuterParts<'a> for Parts {
     ghost stand = { λ parts ms. PartsStand parts ms };
 
-    /// Nothing read: each name must stand.
+    /// Nothing read: each name must be.
     fn none(alloc: Global) -> Parts {
         Parts {
             scenario: Err(refuse_member(alloc, Place::Top, "scenario", Unfit::Wrong)),
@@ -152,7 +154,7 @@ impl<'a> OuterParts<'a> for Parts {
         }
     }
 
-    /// Reads what stands at the next name: gives up at one that is not known.
+    /// Reads what is at the next name: gives up at one that is not known.
     fn put_next(
         &mut self,
         alloc: Global,

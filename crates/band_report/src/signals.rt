@@ -36,7 +36,7 @@ fn is_defined(tables: &Tables, pattern: u8) -> bool
     1 <= pattern && pattern <= 48 && 1 <= tables.pattern(pattern).cycle
 }
 
-/// The force point of a phase by a plan; 0 for what is no phase.
+/// The force point of a phase by a plan; 0 for what is not a phase.
 fn force_of(plan: &Plan, phase: u8) -> u32
     ensures { (t : Tables) (n : ℕ) → plan.now ≡ plan_of t n → result ≡ force_point t n phase }
 {

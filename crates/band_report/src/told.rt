@@ -24,7 +24,7 @@ use std::alloc::{AllocError, Global};
 /// The names of an object that asks of bands.
 const NAMES: [&str; 4] = ["scenario", "section", "pattern", "travel"];
 
-/// A band as its four numbers: start and width in ticks, and the cabinets that stand in its way before and behind it.
+/// A band as its four numbers: start and width in ticks, and the cabinets that are in its way before and after it.
 fn band_text(alloc: Global, report: Option<Band>) -> Result<String, AllocError>
     ensures { IfOk result (λ text. string_bytes text ≡ band_text report) }
 {
@@ -85,8 +85,8 @@ fn lines_of(alloc: Global, asked: &Asked) -> Result<Vec<u8>, NoMemory>
     }
 }
 
-/// The answer to bytes whose parts are read in little memory, where so many of their names come: the two lines, or their first fault.
-/// Want of memory stands also for what this way does not tell.
+/// The answer to bytes whose parts are read in little memory, where their names appear this often: the two lines, or
+/// their first fault. Lack of memory is also the answer for what this way does not say.
 fn report_by_parts(alloc: Global, bytes: &[u8], left: FileLeft) -> Result<Vec<u8>, ReadFail>
     ensures told { IfOk result (λ text. TellsBands bytes.now text.items) }
     ensures refused { IfErr result (λ fail. OnRefusal fail (IsFirstBandFault bytes.now)) }
@@ -101,7 +101,8 @@ fn report_by_parts(alloc: Global, bytes: &[u8], left: FileLeft) -> Result<Vec<u8
     }
 }
 
-/// The same for bytes in which no fault was found: of equal names the last alone is read, also of the scenario's and of its master's.
+/// The same for bytes in which no fault was found: of equal names only the last is read, also of the scenario's and of
+/// its master's.
 fn report_by_last(alloc: Global, bytes: &[u8]) -> Result<Vec<u8>, ReadFail>
     ensures told { IfOk result (λ text. TellsBands bytes.now text.items) }
     ensures refused { IfErr result (λ fail. OnRefusal fail (IsFirstBandFault bytes.now)) }

@@ -1,4 +1,4 @@
--- A way to read that is exact for the texts of values: what it gives stood there, and what stands there it gives.
+-- A way to read that is exact for the texts of values: what it gives were there, and what is there it gives.
 use Rattle.std.proofs.Common.{◌≡◌, ◌≢◌, ℕ, zero, suc, ◌≤◌, Bool, true, false, cond, List, [], ◌∷◌, ◌++◌, length, Option, Some, None, refl, sym, ap, subst, ◌∙◌, append_assoc, arith, inl, inr, ◌⊎◌}
 use Rattle.std.specs.Prelude.{IfSome, IfNone}
 use Rattle.std.proofs.lemmas.List.{append-nil, append_cancel_right}

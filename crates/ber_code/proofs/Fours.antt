@@ -14,7 +14,7 @@ octet_is arc low = rw (lt-ltb arc 128 low) refl
 one_text : (arc : ℕ) (later : List ℕ) → arc < 128 → flat_map arc_text (arc ∷ later) ≡ arc ∷ flat_map arc_text later
 one_text arc later low = ap (λ (t : List ℕ). t ++ flat_map arc_text later) (octet_is arc low)
 
--- what stands behind four, as a pattern takes it
+-- what follows four, as a pattern takes it
 abbrev pub behind_four : List ℕ → List ℕ
 behind_four xs = take (length xs - 4) (drop 4 xs)
 
@@ -33,7 +33,7 @@ texts_of_four (a ∷ b ∷ c ∷ d ∷ later) some la lb lc ld =
     ∙ ap (λ (t : List ℕ). b ∷ t) (one_text c (d ∷ later) lc
     ∙ ap (λ (t : List ℕ). c ∷ t) (one_text d later ld)))
 
--- the text of four such arcs and of those behind them
+-- the text of four such arcs and of those after them
 pub four_texts : (xs : List ℕ) → 4 ≤ length xs → get_or xs 0 0 < 128 → get_or xs 1 0 < 128 → get_or xs 2 0 < 128 → get_or xs 3 0 < 128
     → flat_map arc_text xs ≡ (get_or xs 0 0 ∷ get_or xs 1 0 ∷ get_or xs 2 0 ∷ get_or xs 3 0 ∷ []) ++ flat_map arc_text (behind_four xs)
 four_texts xs some la lb lc ld = rw (behind_is xs) (texts_of_four xs some la lb lc ld)
@@ -67,7 +67,7 @@ read_of_four front n (a ∷ b ∷ c ∷ d ∷ later) most some la lb lc ld =
     ∙ goes_on arc_at (((front ++ a ∷ []) ++ b ∷ []) ++ c ∷ []) (n - 3) (n - 4) (d ∷ later) d later (omega arith) (λ e. omega (arith, e)) (one_read d later ld)
     ∙ ap (λ (f : List ℕ). with_front f (all_at arc_at (n - 4) later)) fronts
 
--- four such arcs are read, and those behind them
+-- four such arcs are read, and those after them
 pub four_read : (front : List ℕ) (n : ℕ) (xs : List ℕ) → 4 ≤ n → 4 ≤ length xs → get_or xs 0 0 < 128 → get_or xs 1 0 < 128 → get_or xs 2 0 < 128 → get_or xs 3 0 < 128
     → with_front front (all_at arc_at n xs) ≡ with_front (front ++ get_or xs 0 0 ∷ get_or xs 1 0 ∷ get_or xs 2 0 ∷ get_or xs 3 0 ∷ []) (all_at arc_at (n - 4) (behind_four xs))
 four_read front n xs most some la lb lc ld = rw (behind_is xs) (read_of_four front n xs most some la lb lc ld)

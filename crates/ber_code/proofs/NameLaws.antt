@@ -13,11 +13,11 @@ use Rattle.ber_code.proofs.LengthLaws.{tagged_exact}
 abbrev joined : ℕ → ℕ → ℕ
 joined n octet = n * 128 + octet % 128
 
--- the number that octets write behind a number so far
+-- the number that octets write after a number so far
 abbrev after : ℕ → List ℕ → ℕ
 after n octets = fold joined n octets
 
--- what stands behind a number so far
+-- what follows a number so far
 record Finishes (so_far : ℕ) (bytes : List ℕ) (arc : ℕ) (rest : List ℕ) : Type 0 where
   text : List ℕ
   runs_on : RunsOn text

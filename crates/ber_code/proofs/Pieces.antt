@@ -11,7 +11,7 @@ texts_more f xs i d below =
     ap (flat_map f) (take_more xs i d below) ∙ flat_map-append f (take i xs) (get_or xs i d ∷ [])
     ∙ ap (λ (t : List ℕ). flat_map f (take i xs) ++ t) (flat_map-cons f (get_or xs i d) [] ∙ append-nil (f (get_or xs i d)))
 
--- the texts of a front are no longer than those of all
+-- the texts of a prefix are no longer than those of all
 pub texts_front : {X : Type 0} (f : X → List ℕ) (xs : List X) (n : ℕ) → length (flat_map f (take n xs)) ≤ length (flat_map f xs)
 texts_front f xs n =
     let e : flat_map f (take n xs) ++ flat_map f (drop n xs) ≡ flat_map f xs = sym (flat_map-append f (take n xs) (drop n xs)) ∙ ap (flat_map f) (take-append-drop n xs) in

@@ -1,4 +1,4 @@
--- What it is for a field to stand at the front of octets, and for fields to follow one another.
+-- What it is for a field to be at the front of octets, and for fields to follow one another.
 use Rattle.std.specs.Prelude.{◌≡◌, ℕ, List, [], ◌∷◌, ◌++◌}
 
 -- the octets are a text of the value, and then the rest

@@ -5,7 +5,7 @@ use Rattle.std.specs.Prelude.{◌≡◌, ℕ, ◌+◌, ◌*◌, ◌/◌, ◌%◌
 abbrev pub big_endian : List ℕ → ℕ
 big_endian octets = fold (λ n octet. n * 256 + octet) 0 octets
 
--- a length below 128 may be one octet, and any length an octet 129 to 132 and so many octets less 128 of its number
+-- a length below 128 may be one octet, and any length an octet 129 to 132 and that many octets less 128 of its number
 abbrev pub IsLength : List ℕ → ℕ → Type 0
 IsLength [] n = ⊥
 IsLength (first ∷ more) n = ((first < 128) × (more ≡ []) × (n ≡ first))
@@ -24,7 +24,7 @@ length_text n =
 abbrev pub IsTagged : ℕ → List ℕ → List ℕ → Type 0
 IsTagged tag text content = (len : List ℕ) × IsLength len (length content) × (text ≡ tag ∷ (len ++ content))
 
--- the tag and the shortest length of so many octets of content
+-- the tag and the shortest length of that many octets of content
 abbrev pub head_text : ℕ → ℕ → List ℕ
 head_text tag size = tag ∷ length_text size
 

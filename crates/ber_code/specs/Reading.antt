@@ -14,7 +14,7 @@ abbrev pub Gives : {X Y : Type 0} → (X → Y) → Option X → Option Y → Ty
 Gives view (Some x) read = read ≡ Some (view x)
 Gives view None read = read ≡ None
 
--- where a text of a value stands at the front, the call returns that value and what follows it
+-- where a text of a value is at the front, the call returns that value and what follows it
 abbrev pub ReadsEach : {X A : Type 0} → (List ℕ → A → Type 0) → (X → A × List ℕ) → List ℕ → Option X → Type 0
 ReadsEach {X} {A} IsText view bytes result = (text rest : List ℕ) (value : A) → IsText text value → bytes ≡ text ++ rest → Gives view result (Some (value, rest))
 
@@ -57,7 +57,7 @@ unfoldable pub arc_at : List ℕ → Option (ℕ × List ℕ)
 arc_at [] = None
 arc_at (first ∷ rest) = if first == 128 then None else arc_from 0 (first ∷ rest)
 
--- at most so many values, up to the end of the octets
+-- at most that many values, up to the end of the octets
 unfoldable pub all_at : {A : Type 0} → (List ℕ → Option (A × List ℕ)) → ℕ → List ℕ → Option (List A)
 all_at read zero [] = Some []
 all_at read zero (octet ∷ rest) = None

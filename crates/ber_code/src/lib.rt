@@ -1,6 +1,6 @@
-//! The fields of an SNMP message as octets (ITU-T X.690, basic encoding rules): lengths, INTEGER,
-//! OCTET STRING and OBJECT IDENTIFIER, each read from the front of octets and written at the end of
-//! a frame. Nothing here takes memory.
+//! The fields of an SNMP message as octets (ITU-T X.690, basic encoding rules): lengths, INTEGER, OCTET STRING and
+//! OBJECT IDENTIFIER, each read from the beginning of some octets and written at the end of a frame. Nothing here takes
+//! memory.
 #![tactic(auto)]
 
 mod integers;

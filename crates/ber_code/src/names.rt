@@ -78,7 +78,7 @@ fn arcs_into(octets: &[u8], name: &mut Oid) -> Option<()>
     }
 }
 
-/// Puts arcs behind those of a name.
+/// Puts arcs after those of a name.
 fn push_all(arcs: &[u32], name: &mut Oid)
     requires { array_vec_len name.old + length arcs.now ≤ 32 }
     ensures { name.new.items ≡ name.old.items ++ arcs.now }
@@ -86,7 +86,8 @@ fn push_all(arcs: &[u32], name: &mut Oid)
     let _ = name.try_extend_from_slice(arcs);
 }
 
-/// Reads at most so many arcs behind those of a name, up to the end of the octets: four at once where each is one octet.
+/// Reads at most that many arcs after those of a name, up to the end of the octets: four at once where each is one
+/// octet.
 fn rest_into(most: u8, octets: &[u8], name: &mut Oid) -> Option<()>
     requires { array_vec_len name.old + most ≤ 32 }
     ensures { Gives (λ _. name.new.items) result (with_front name.old.items (all_at arc_at most octets.now)) }

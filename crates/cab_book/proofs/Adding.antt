@@ -1,4 +1,4 @@
--- What has been brought in a round, with the next item of a pass, or with so many ticks.
+-- What has been brought in a round, with the next item of a pass, or with that many ticks.
 use Rattle.std.proofs.Common.{◌≡◌, ◌≤◌, ◌∙◌, ℕ, zero, suc, List, [], ◌∷◌, ◌++◌, replicate, refl, ap}
 use Rattle.sig_types.specs.declared.streams.Streams.{Streams}
 use Rattle.sig_types.specs.Items.{items_of}

@@ -27,7 +27,7 @@ use Rattle.cabinet_history.specs.CabinetAnswers.{set_of, shown_at, seen_in, repl
 use Rattle.cab_book.specs.CabinetStands.{IsSound}
 use Rattle.cabinet_history.proofs.Installing.{few-within}
 
--- a number after it was halved so often
+-- a number after it was halved that often
 abbrev halved : ℕ → ℕ → ℕ
 halved zero n = n
 halved (suc k) n = halved k (n / 2)
@@ -89,7 +89,7 @@ text-is has ask seen o text a b e =
     (e ∙ ap (λ (x : Seen). shortest (reply x ask.message ask.wish o)) a
     ∙ ap (λ (x : Option StageAnswer). shortest (reply (seen_in has) ask.message ask.wish x)) b)
 
--- what is shown can be told
+-- what is shown can be known
 pub shown-within : (n : ℕ) (has : Coming) (s : Shown) → IsSound n has → ShownAfter s (past_of has) → IsWithin s
 shown-within n has s is shown = record {
   clock = omega (arith, shown.clock, is.shows.clock);

@@ -16,7 +16,7 @@ use Rattle.cab_book.proofs.Coming.{frames-many}
 use Rattle.cab_book.proofs.Parts.{past_end}
 use Rattle.cab_book.specs.Rounds.{CanBeTaken, ArePlaced, AreShort, AreTallied, acts_so_far, RoundStands}
 
--- the round begins at the cabinet history that the cabinet stands for
+-- the round begins at the cabinet history that the cabinet represents
 pub round-begins : (c : Cabinet) (streams : Streams) (h : Happened) (cabinet_history : CabinetHistory) → journal_in h ≡ [] → written_of h ≡ [] → answered_of h ≡ []
     → CabinetStands c cabinet_history → RoundStands c streams h cabinet_history
 round-begins c streams h cabinet_history journal written answered is =
@@ -31,7 +31,7 @@ round-begins c streams h cabinet_history journal written answered is =
       });
     }
 
--- no stream of a round that can be taken has more items than the longest list, or its ticks
+-- no stream of a round that can be accepted has more items than the longest list, or its ticks
 pub taken-small : (streams : Streams) → CanBeTaken streams → streams.ticks ≤ 2147483648 → (p : ℕ) → length (get_or (items_of streams) p []) ≤ 2147483648
 taken-small streams can few zero = omega (arith, can.few_fields, length-map streams.fields.items InputTold)
 taken-small streams can few (suc zero) = omega (arith, can.few_polls, frames-many streams.polls.items)
@@ -40,7 +40,7 @@ taken-small streams can few (suc (suc (suc zero))) = omega (arith, can.few_prios
 taken-small streams can few (suc (suc (suc (suc zero)))) = omega (arith, few, length-replicate streams.ticks Ticked)
 taken-small streams can few (suc (suc (suc (suc (suc p))))) = omega arith
 
--- the streams of a round that can be taken are short
+-- the streams of a round that can be accepted are short
 pub taken-short : (streams : Streams) → CanBeTaken streams → streams.ticks ≤ 4294967294 → AreShort streams
 taken-short streams can few zero = omega (arith, can.few_fields, length-map streams.fields.items InputTold)
 taken-short streams can few (suc zero) = omega (arith, can.few_polls, frames-many streams.polls.items)

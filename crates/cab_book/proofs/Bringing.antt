@@ -1,4 +1,4 @@
--- A pass brings the next item of its stream: what is left, what the journal tells, the room, and the cabinet history.
+-- A pass brings the next item of its stream: what is left, what the journal says, the room, and the cabinet history.
 use Rattle.std.proofs.Common.{◌≡◌, ◌≢◌, ◌≤◌, ◌<◌, ℕ, zero, suc, ◌+◌, ◌∙◌, inl, inr, append_assoc, append-nil, List, [], ◌∷◌, ◌++◌, length, replicate, get_or, slice_set, refl, sym, ap, subst, arith}
 use Rattle.std.proofs.lemmas.List.{get_or-set_same, get_or-set_other}
 use Rattle.std.proofs.lemmas.Bool.{cases_lt}
@@ -20,7 +20,7 @@ use Rattle.cab_book.proofs.Parts.{joined_left, shared_left, joined-low, joined-h
 use Rattle.cab_book.proofs.Runs.{times_both, times_run, times_other, last-more}
 use Rattle.cab_book.proofs.Keeping.{kept-more, tick_acts, tick_act, cabinet_history-ticks, kept-ticks}
 
--- so many items of a pass were taken
+-- that many items of a pass were taken
 pub record Taken (old new : List ℕ) (pass many : ℕ) : Type 0 where
   pub own : get_or new pass 0 + many ≡ get_or old pass 0
   pub others : (p : ℕ) → p ≢ pass → get_or new p 0 ≡ get_or old p 0
@@ -107,7 +107,7 @@ few-read streams left h p tallied short = elim (cases_lt p 4) [
   ]
 ]
 
--- all items are still told where the ticks are all pass 4's
+-- all items are still given where the ticks are all pass 4's
 pub joined-tallied : (streams : Streams) (left : List ℕ) (ticks : ℕ) (old new : Happened) → ticks ≡ ticks_left left → AreTallied streams left old
     → journal_in new ≡ read_journal (journal_in old) → AreTallied streams (joined_left left ticks) new
 joined-tallied streams left ticks old new all tallied goes =
@@ -227,7 +227,7 @@ frame-taken left rest pass above within o =
     one-of-three left rest (suc (suc (suc zero))) above within o = omega (arith, o.own, o.others 1 (omega arith), o.others 2 (omega arith))
     one-of-three left rest (suc (suc (suc (suc pass)))) above within o = absurd (omega (arith, within))
 
--- a cabinet to which the next item has come, and what is kept of it, stand for the round with one pass more
+-- a cabinet to which the next item has come, and what is kept of it, represent the round with one pass more
 pub round-more : (cabinet next : Cabinet) (streams : Streams) (old new : Happened) (cabinet_history : CabinetHistory) (pass : ℕ) (item : Item)
     → item ≡ get_or (get_or (items_of streams) pass []) (times pass (journal_in old)) Ticked
     → RoundStands cabinet streams old cabinet_history → CabinetStands next (with_item (cabinet_history_after streams old cabinet_history) item)
@@ -247,7 +247,7 @@ round-more cabinet next streams old new cabinet_history pass item e is stands go
       written = subst (IsWritten new cabinet_history) (sym more) (kept-more old new cabinet_history acts act is.written gone);
     }
 
--- a pass whose stream has ticks alone brings ticks
+-- a pass whose stream has only ticks brings ticks
 pub acts-ticks : (streams : List (List Item)) (journal : List ℕ) (pass many : ℕ)
     → ((place : ℕ) → get_or (get_or streams pass []) place Ticked ≡ Ticked)
     → acts_of streams (journal ++ replicate many pass) ≡ acts_of streams journal ++ tick_acts pass many
@@ -261,7 +261,7 @@ acts-ticks streams journal pass (suc many) ticks =
     ∙ ap (λ (x : List Act). x ++ tick_act pass ∷ []) (acts-ticks streams journal pass many ticks)
     ∙ append_assoc (acts_of streams journal) (tick_acts pass many) (tick_act pass ∷ [])
 
--- so does the round of a cabinet to which so many ticks have come
+-- so does the round of a cabinet to which that many ticks have come
 pub round-ticks : (cabinet next : Cabinet) (streams : Streams) (old new : Happened) (cabinet_history : CabinetHistory) (pass many : ℕ)
     → ((place : ℕ) → get_or (get_or (items_of streams) pass []) place Ticked ≡ Ticked)
     → RoundStands cabinet streams old cabinet_history → CabinetStands next (ticks_on many (cabinet_history_after streams old cabinet_history))

@@ -61,7 +61,7 @@ tick_item streams (suc (suc (suc zero))) place above = absurd (omega (arith, abo
 tick_item streams (suc (suc (suc (suc zero)))) place above = ticked_at streams.ticks place
 tick_item streams (suc (suc (suc (suc (suc pass))))) place above = refl
 
--- so many ticks came, and what they gave is kept
+-- that many ticks came, and what they gave is kept
 pub strode : (c next : Cabinet) (streams : Streams) (old new : Happened) (pass many : ℕ) (frames : List (ℕ × Frame)) → 4 ≤ pass
     → ((cabinet_history : CabinetHistory) → CabinetStands c cabinet_history → frames ≡ ticks_written many cabinet_history)
     → ((cabinet_history : CabinetHistory) → CabinetStands c cabinet_history → CabinetStands next (ticks_on many cabinet_history)) → TicksOn old new pass many frames → (cabinet_history : CabinetHistory)
@@ -94,11 +94,11 @@ frame-next streams left h pass place frames octets low tallied own e some is =
     ∙ ap (λ (x : List Item). get_or x place Ticked) own
     ∙ ap (λ (n : ℕ). get_or (get_or (items_of streams) pass []) n Ticked) at
 
--- what is told of a frame
+-- what is reported of a frame
 abbrev pub reply_of : ℕ → Option (ArrayVec ℕ) → Option Load → Reply
 reply_of pass text load = record { pass = pass; text = text; load = load }
 
--- a frame came, and what is told of it is kept
+-- a frame came, and what is reported of it is kept
 pub replied : (c next : Cabinet) (streams : Streams) (left : List ℕ) (old new : Happened) (pass place : ℕ) (frames : List (ArrayVec ℕ)) (octets : List ℕ)
     (text : Option (ArrayVec ℕ)) (load : Option Load) → pass < 4 → AreTallied streams left old
     → map Came (texts_of frames) ≡ get_or (items_of streams) pass [] → place + get_or left pass 0 ≡ length frames → 0 < get_or left pass 0

@@ -1,4 +1,4 @@
--- What follows from standing for a history, whichever gives the frames.
+-- What follows from representing a history, whichever gives the frames.
 use Rattle.std.proofs.Common.{◌≡◌, ◌<◌, ℕ, ◌==◌, ◌&&◌, Bool, true, false, if◌then◌else◌, List, [], ◌∷◌, length, refl, arith}
 use Rattle.std.proofs.lemmas.Bool.{and_parts, and_from, false≢true}
 use Rattle.sig_types.specs.declared.frame.Mode.TheVariants.{Coord}
@@ -32,7 +32,7 @@ head_counter : (b : Bool) (x : ℕ) (xs : List ℕ) → b ≡ true → last_coun
 head_counter true x xs e = refl
 head_counter false x xs e = absurd (false≢true e)
 
--- the last of the counters in step is that of the last frame
+-- the last of the coordinated counters is that of the last frame
 last-is : (moments : List Moment) (version n : ℕ) → is_in_step (last_frame moments) version n ≡ true
     → last_counter (counters_since n version moments) ≡ (last_frame moments).counter
 last-is [] version n on = refl

@@ -1,4 +1,4 @@
--- What is carried out leaves a cabinet that can be gone on with.
+-- What is carried out leaves a cabinet that can be continued with.
 use Rattle.std.proofs.Common.{◌≡◌, ◌≤◌, ◌<◌, ℕ, ◌∙◌, List, [], ◌∷◌, length, map, refl, sym, subst, Option, Some, None}
 use Rattle.sig_types.specs.declared.notes.StageAnswer.{StageAnswer}
 use Rattle.sig_types.specs.declared.notes.StageAnswer.TheVariants.{Staged, Repeated, Verified, Accepted, WrongToken, WrongPart, NotVerified, Refused}
@@ -63,7 +63,7 @@ finish-kept (WrongPart n) past old = old
 finish-kept NotVerified past old = old
 finish-kept (Refused b) past old = old
 
--- the clock that was told does not ask for tables
+-- the clock that was given does not ask for tables
 told-aside : (o : Option ℕ) (u v : Tables) (moments : List Moment) → clock_told o (last_moment u moments) ≡ clock_told o (last_moment v moments)
 told-aside (Some time) u v moments = refl
 told-aside None u v [] = refl

@@ -1,4 +1,4 @@
--- A frame that asks nothing is met with silence; an input or a tick is no frame.
+-- A frame that asks nothing is ignored; an input or a tick is not a frame.
 use Rattle.std.proofs.Common.{◌≡◌, ◌≤◌, ℕ, zero, suc, ◌∙◌, List, [], ◌∷◌, map, get_or, sym, ap, subst}
 use Rattle.sig_types.specs.declared.frame.Field.{Field}
 use Rattle.sig_types.specs.declared.streams.Streams.{Streams}

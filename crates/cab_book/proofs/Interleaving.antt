@@ -5,23 +5,23 @@ use Rattle.sig_types.specs.declared.frame.Frame.{Frame}
 use Rattle.cab_book.specs.declared.happened.Answered.{Answered}
 use Rattle.cab_book.specs.Happenings.{Happening, Wrote, Replied, interleaved, AreInOrder}
 
--- replies in order stand behind no more than the last of the frames
+-- replies in order follow no more than the last of the frames
 pub in-order-most : (before : ℕ) (answered : List Answered) (most : ℕ) → AreInOrder before answered most → before ≤ most
 in-order-most before [] most is = is
 in-order-most before (a ∷ answered) most is = omega (arith, is.0, in-order-most a.behind answered most is.1)
 
--- more frames behind them leave them in order
+-- more frames after them leave them in order
 pub in-order-frames : (before : ℕ) (answered : List Answered) (most more : ℕ) → most ≤ more → AreInOrder before answered most → AreInOrder before answered more
 in-order-frames before [] most more le is = omega (arith, is, le)
 in-order-frames before (a ∷ answered) most more le is = (is.0, in-order-frames a.behind answered most more le is.1)
 
--- and so does one reply more, behind all of them
+-- and so does one reply more, after all of them
 pub in-order-reply : (before : ℕ) (answered : List Answered) (a : Answered) (most : ℕ) → a.behind ≡ most → AreInOrder before answered most
     → AreInOrder before (answered ++ a ∷ []) most
 in-order-reply before [] a most e is = (omega (arith, e, is), omega (arith, e))
 in-order-reply before (b ∷ answered) a most e is = (is.0, in-order-reply b.behind answered a most e is.1)
 
--- the frames that a reply stands behind, and the others
+-- the frames that a reply follows, and the others
 record Parted (before : ℕ) (frames : List (ℕ × Frame)) (a : Answered) (answered : List Answered) : Type 0 where
   here : a.behind - before ≤ length frames
   rest : AreInOrder a.behind answered (a.behind + length (drop (a.behind - before) frames))

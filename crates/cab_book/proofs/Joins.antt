@@ -10,7 +10,7 @@ read-replicate : (many pass : ℕ) → read_journal (replicate many pass) ≡ re
 read-replicate zero pass = refl
 read-replicate (suc many) pass = ap (λ (x : List ℕ). read_pass pass ∷ x) (read-replicate many pass)
 
--- the next run, and what is behind it
+-- the next run, and what follows it
 next-run : (runs : List (ℕ × ℕ)) (place : ℕ) (x d : ℕ × ℕ) → place < length runs → x ≡ get_or runs place d
     → read_journal (passes_of (drop place runs)) ≡ replicate x.1 (read_pass x.0) ++ read_journal (passes_of (drop (place + 1) runs))
 next-run runs place x d below is =
@@ -20,7 +20,7 @@ next-run runs place x d below is =
     ∙ ap (λ (r : List ℕ). r ++ read_journal (passes_of (drop (suc place) runs))) (read-replicate x.1 x.0)
     ∙ ap (λ (n : ℕ). replicate x.1 (read_pass x.0) ++ read_journal (passes_of (drop n runs))) (sym (add-one place))
 
--- the runs in front have gone on by it
+-- the runs in front have advanced by it
 pub goes-on : (runs front : List (ℕ × ℕ)) (whole : List ℕ) (place : ℕ) (x d : ℕ × ℕ) → place < length runs → x ≡ get_or runs place d
     → passes_of front ++ read_journal (passes_of (drop place runs)) ≡ whole
     → passes_of (with_run_last front (read_pass x.0) x.1) ++ read_journal (passes_of (drop (place + 1) runs)) ≡ whole
@@ -31,7 +31,7 @@ goes-on runs front whole place x d below is so =
     ∙ ap (λ (r : List ℕ). passes_of front ++ r) (sym (next-run runs place x d below is))
     ∙ so
 
--- and it is no longer than its pass stands in the whole
+-- and it is no longer than its pass is in the whole
 pub few-on : (runs front : List (ℕ × ℕ)) (whole : List ℕ) (place : ℕ) (x d : ℕ × ℕ) → place < length runs → x ≡ get_or runs place d
     → passes_of front ++ read_journal (passes_of (drop place runs)) ≡ whole
     → times (read_pass x.0) (passes_of front) + x.1 ≤ times (read_pass x.0) whole
@@ -43,7 +43,7 @@ few-on runs front whole place x d below is so =
     let behind : times pass (read_journal (passes_of (drop place runs))) ≡ times pass (replicate x.1 pass ++ rest) = ap (times pass) (next-run runs place x d below is) in
     omega (arith, all, both, behind, times_both pass (replicate x.1 pass) rest, times_run pass x.1)
 
--- each run stands at least once
+-- each run is at least once
 abbrev AllSome : List (ℕ × ℕ) → Type 0
 AllSome runs = (k : ℕ) (d : ℕ × ℕ) → k < length runs → 1 ≤ (get_or runs k d).1
 

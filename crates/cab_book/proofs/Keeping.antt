@@ -1,4 +1,4 @@
--- What is kept of a round, with one act more, or with so many ticks.
+-- What is kept of a round, with one act more, or with that many ticks.
 use Rattle.std.proofs.Common.{◌≡◌, ℕ, zero, suc, ◌+◌, ◌∙◌, List, [], ◌∷◌, ◌++◌, length, map, refl, sym, ap, subst, append-nil, append_assoc, length-append, arith}
 use Rattle.std.proofs.lemmas.List.{map-append}
 use Rattle.sig_types.specs.declared.frame.Frame.{Frame}
@@ -33,7 +33,7 @@ replies_behind : (many : ℕ) (replies : List Reply) → replies_in (behind many
 replies_behind many [] = refl
 replies_behind many (r ∷ replies) = ap (λ (rest : List Reply). r ∷ rest) (replies_behind many replies)
 
--- an item gives frames or one reply, and those stand where they came
+-- an item gives frames or one reply, and those are where they came
 record Ordered (frames : List (ℕ × Frame)) (answered : List Answered) (now : CabinetHistory) (pass : ℕ) (item : Item) : Type 0 where
   order : interleaved 0 (frames ++ item_written now item) (answered ++ behind (length frames) (item_replies now pass item))
       ≡ interleaved 0 frames answered ++ item_happenings now pass item
@@ -67,7 +67,7 @@ ordered frames answered now pass (Came octets) is =
       counts = subst (λ (x : List (ℕ × Frame)). AreInOrder 0 all (length x)) (sym (append-nil frames)) (in-order-reply 0 answered _ (length frames) refl is);
     }
 
--- what is kept goes on with what an act gives
+-- what is kept continues with what an act gives
 pub kept-more : (old new : Happened) (cabinet_history : CabinetHistory) (acts : List Act) (act : Act) → IsWritten old cabinet_history acts
     → HappenedGoesOn old new act.pass (item_written (after cabinet_history (items_in acts)) act.item) (item_replies (after cabinet_history (items_in acts)) act.pass act.item)
     → IsWritten new cabinet_history (acts ++ act ∷ [])
@@ -91,7 +91,7 @@ kept-more old new cabinet_history acts act is goes =
           (subst (λ (x : List Answered). AreInOrder 0 x (length (written_of old ++ item_written now act.item))) (sym goes.replies) o.counts);
     }
 
--- a pass brings a tick, and so many ticks
+-- a pass brings a tick, and that many ticks
 abbrev pub tick_act : ℕ → Act
 tick_act pass = record { pass = pass; item = Ticked }
 
@@ -145,7 +145,7 @@ happenings-ticks cabinet_history acts pass (suc many) =
     ∙ append_assoc before (map Wrote given) (map Wrote (tick_written (history_of (ticks_on many now))))
     ∙ ap (λ (x : List Happening). before ++ x) (sym (map-append Wrote given (tick_written (history_of (ticks_on many now)))))
 
--- what is kept goes on with what so many ticks give
+-- what is kept continues with what that many ticks give
 pub kept-ticks : (old new : Happened) (cabinet_history : CabinetHistory) (acts : List Act) (pass many : ℕ) → IsWritten old cabinet_history acts
     → TicksOn old new pass many (ticks_written many (after cabinet_history (items_in acts))) → IsWritten new cabinet_history (acts ++ tick_acts pass many)
 kept-ticks old new cabinet_history acts pass many is goes =

@@ -41,7 +41,7 @@ own-stream streams pass item low = get_or-set_same streams pass (get_or streams 
 pub other-stream : (streams : List (List Item)) (pass p : ℕ) (item : Item) → p ≢ pass → get_or (with_last_at streams pass item) p [] ≡ get_or streams p []
 other-stream streams pass p item ne = get_or-set_other streams pass p (get_or streams pass [] ++ item ∷ []) [] ne
 
--- a pass counts the same whether it stands before or in what follows
+-- a pass counts the same whether it is before or in what follows
 moved : (p q : ℕ) (before journal : List ℕ) → times p (q ∷ before) + times p journal ≡ times p before + times p (q ∷ journal)
 moved p q before journal = elim (eqb_tells p q) [
   | inl (t, e) ↦ omega (arith, count-here p q before e, count-here p q journal e)

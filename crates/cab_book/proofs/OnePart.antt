@@ -9,7 +9,7 @@ use Rattle.cab_book.specs.declared.book.Book.{Book}
 use Rattle.cab_book.specs.Books.{streams_in, journal_of, left_of, IsOnePart}
 use Rattle.cab_book.proofs.Runs.{times_both, times_other}
 
--- there are no streams behind the fifth
+-- there are no streams after the fifth
 pub no-sixth : (streams : Streams) (p : ℕ) → 5 ≤ p → length (get_or (items_of streams) p []) ≡ 0
 no-sixth streams zero most = absurd (omega (arith, most))
 no-sixth streams (suc zero) most = absurd (omega (arith, most))

@@ -11,7 +11,7 @@ use Rattle.cab_book.specs.Controls.{ControlStands, tick_count}
 use Rattle.cab_book.proofs.Facts.{first-ticks}
 use Rattle.cab_book.specs.CabinetStands.{OnlyDrifts, IsNew, IsSound}
 
--- what such a history has come to
+-- what such a history has reached
 record NewPast (t : Tables) (clock : ℕ) (past : Past) : Type 0 where
   tables : past.tables ≡ t
   version : past.version ≡ 0

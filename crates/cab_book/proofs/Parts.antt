@@ -1,4 +1,4 @@
--- Shares of ticks come to all of them, and a journal that reads their passes as one counts them together.
+-- The shares of ticks add up to all of them, and a journal that reads their passes as one counts them together.
 use Rattle.std.proofs.Common.{◌≡◌, ◌≢◌, ◌≤◌, ◌<◌, ◌+◌, ◌==◌, ◌&&◌, nat_le, ℕ, zero, suc, Bool, true, false, inl, inr, if◌then◌else◌, List, [], ◌∷◌, length, get_or, refl, sym, ap, ◌∙◌, arith}
 use Rattle.std.proofs.lemmas.Bool.{leb-true, leb-false}
 use Rattle.std.proofs.lemmas.Bool.Decides.{eqb_tells}
@@ -9,7 +9,7 @@ use Rattle.cab_book.specs.Shares.{read_pass, read_journal, ticks_left, ticks_bro
 halves-sum : (ticks : ℕ) → greater_half ticks + lesser_half ticks ≡ ticks
 halves-sum ticks = omega arith
 
--- the shares come to all ticks
+-- the shares add up to all ticks
 pub shares-sum : (parts ticks : ℕ) → get_or (shares parts ticks) 0 0 + get_or (shares parts ticks) 1 0 + get_or (shares parts ticks) 2 0 + get_or (shares parts ticks) 3 0 ≡ ticks
 shares-sum parts ticks = split (parts == 1) (parts == 2)
   where
@@ -86,7 +86,7 @@ read-ticks (q ∷ journal) = elim (read-is q) [
   ]
 ]
 
--- passes 5 to 7 stand in none
+-- passes 5 to 7 are in none
 pub read-none : (p : ℕ) → 5 ≤ p → p ≤ 7 → (journal : List ℕ) → times p (read_journal journal) ≡ 0
 read-none p from to [] = refl
 read-none p from to (q ∷ journal) = elim (read-is q) [

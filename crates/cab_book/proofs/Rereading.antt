@@ -30,7 +30,7 @@ AreAlike [] [] = Unit {0}
 AreAlike (a ∷ acts) (b ∷ others) = Alike a b × AreAlike acts others
 AreAlike _ _ = ⊥
 
--- then they tell the same
+-- then they give the same
 module _ {A : Type 0} (tells : CabinetHistory → ℕ → Item → List A) (plain : (cabinet_history : CabinetHistory) (p q : ℕ) → tells cabinet_history p Ticked ≡ tells cabinet_history q Ticked) where
   one-same : (cabinet_history : CabinetHistory) (a b : Act) → Alike a b → tells cabinet_history a.pass a.item ≡ tells cabinet_history b.pass b.item
   one-same cabinet_history a b like = elim like.pass [

@@ -1,4 +1,4 @@
--- The last run of a journal, and a run more behind it.
+-- The last run of a journal, and a run more after it.
 use Rattle.std.proofs.Common.{◌≡◌, ◌≢◌, ◌≤◌, ◌<◌, ℕ, zero, suc, ◌+◌, ◌==◌, ◌∙◌, Bool, true, false, inl, inr, if◌then◌else◌, List, [], ◌∷◌, ◌++◌, length, replicate, get_or, slice_set, refl, sym, ap, subst, append_assoc, append-nil, arith}
 use Rattle.std.proofs.lemmas.Bool.Decides.{eqb_tells}
 use Rattle.std.proofs.lemmas.List.{replicate-append-replicate}
@@ -115,7 +115,7 @@ pub times_other : (q p many : ℕ) → q ≢ p → times q (replicate many p) �
 times_other q p zero ne = refl
 times_other q p (suc many) ne = elim (eqb_tells q p) [ inl (t, e) ↦ absurd (ne e) | inr (t, also) ↦ rw t (times_other q p many ne) ]
 
--- a run is no longer than its pass stands in the journal
+-- a run is no longer than its pass is in the journal
 pub run-few : (runs : List (ℕ × ℕ)) (d : ℕ × ℕ) (place : ℕ) → place < length runs → (get_or runs place d).1 ≤ times (get_or runs place d).0 (passes_of runs)
 run-few [] d place less = absurd (omega (arith, less))
 run-few (run ∷ runs) d zero less = omega (arith, times_both run.0 (replicate run.1 run.0) (passes_of runs), times_run run.0 run.1)
@@ -128,7 +128,7 @@ pub begins-first : (runs : List (ℕ × ℕ)) (pass many : ℕ) → length runs 
 begins-first [] pass many none = refl
 begins-first (run ∷ runs) pass many none = absurd (omega (arith, none))
 
--- the last run is no longer than its pass stands in the journal
+-- the last run is no longer than its pass is in the journal
 pub last-few : (runs : List (ℕ × ℕ)) (last : ℕ × ℕ) (place pass : ℕ) → place < length runs → last ≡ get_or runs place last → last.0 ≡ pass
     → last.1 ≤ times pass (passes_of runs)
 last-few runs last place pass less is e =

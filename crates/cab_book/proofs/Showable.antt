@@ -34,7 +34,7 @@ cycle-few t n fits d =
     let few : (pattern_of t n).cycle ≤ 255 = ((in-range t fits).patterns n (leb-true 1 n place.0) (leb-true n 48 place.1)).cycle in
     omega (arith, few)
 
--- in step the counter is within the cycle
+-- coordinated the counter is within the cycle
 in-step-few : (c : Control) (past : Past) (n : ℕ) → ControlKeeps c (with_moment past (next_moment past)) → EachFits past.tables
     → mode_seen past ≡ Coord n → (next_moment past).frame.counter ≤ 2147483647
 in-step-few c past n k fits e =

@@ -1,4 +1,4 @@
--- Ticks one after another: what they give, and what the cabinet has come to.
+-- Ticks one after another: what they give, and what the cabinet has reached.
 use Rattle.std.proofs.Common.{◌≡◌, ◌≤◌, ◌<◌, ℕ, zero, suc, ◌+◌, ◌∙◌, Bool, false, if◌then◌else◌, List, [], ◌∷◌, ◌++◌, length, refl, sym, ap, subst, arith}
 use Rattle.sig_types.specs.declared.frame.Frame.{Frame}
 use Rattle.sig_tables.specs.Past.{History}
@@ -17,7 +17,7 @@ use Rattle.cab_book.specs.CabinetStands.{CabinetKeeps, CabinetStands}
 use Rattle.cab_book.specs.Ticks.{ticks_on, ticks_written}
 use Rattle.cab_book.proofs.Showable.{ticked-shows}
 
--- what the cabinet history has come to by then
+-- what the cabinet history has reached by then
 pub coming-on : (k : ℕ) (cabinet_history : CabinetHistory)
     → coming (ticks_on k cabinet_history) ≡ record { history = ticks_more k (history_of cabinet_history); calls = (coming cabinet_history).calls }
 coming-on zero cabinet_history = refl
@@ -69,7 +69,7 @@ version-on : (k : ℕ) (h : History) → (past_at (ticks_more k h)).version ≡ 
 version-on zero h = refl
 version-on (suc k) h = version-on k h
 
--- the cabinet with what its controller has become by so many ticks
+-- the cabinet with what its controller has become by that many ticks
 abbrev pub with_ticks : Cabinet → Control → ℕ → Cabinet
 with_ticks c k m = record { control = k; stage = c.stage; community = c.community; ticks = c.ticks + m; ask = c.ask }
 

@@ -1,4 +1,4 @@
--- What a wish comes to at the stage and at the controller.
+-- The effect of a wish on the stage and on the controller.
 use Rattle.std.proofs.Common.{◌≡◌, ◌<◌, ℕ, suc, zero, Bool, List, [], ◌∷◌, length, map, take, get_or, refl, sym, ap, subst, arith, Option, Some, is_some}
 use Rattle.sig_types.specs.declared.notes.StageAnswer.{StageAnswer}
 use Rattle.sig_types.specs.declared.notes.StageAnswer.TheVariants.{Staged, Repeated, Verified, Accepted, WrongToken, WrongPart, NotVerified, Refused}

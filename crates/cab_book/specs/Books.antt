@@ -1,4 +1,5 @@
--- What a book stands for: the cabinet history at which its round began, the streams of the round, and the journal of what was taken from them.
+-- What a book represents: the cabinet history at which its round began, the streams of the round, and the journal of
+-- what was taken from them.
 use Rattle.std.specs.Prelude.{ℕ, ◌+◌, ◌≡◌, ◌≢◌, ◌<◌, ◌≤◌, List, [], ◌∷◌, ◌++◌, length, replicate, get_or, None}
 use Rattle.sig_types.specs.declared.frame.Frame.{Frame}
 use Rattle.sig_types.specs.declared.streams.Stream.{Stream}
@@ -40,7 +41,7 @@ left_of b pass = get_or b.left pass 0
 abbrev pub acts_in : Book → List Act
 acts_in b = acts_so_far b.streams b.happened
 
--- a pass with the item that it brings next, and one that brings so many ticks
+-- a pass with the item that it brings next, and one that brings that many ticks
 abbrev pub next_act : Book → ℕ → Act
 next_act b pass = record { pass = pass; item = get_or (get_or (streams_in b) pass []) (times pass (journal_of b)) Ticked }
 
@@ -102,7 +103,7 @@ pub record IsBrought (old new : Book) (pass : ℕ) : Type 0 where
   pub ticks : ticks_by_end new ≡ ticks_by_end old
   pub ignored : IgnoresWhatAsksNothing old new pass (next_act old pass).item
 
--- an item more stands at the end of a stream, and is left to be brought
+-- an item more is at the end of a stream, and is left to be brought
 pub record IsLengthened (old new : Book) (stream : Stream) (item : Item) : Type 0 where
   pub stands : (cabinet_history : CabinetHistory) → BookStands old cabinet_history → BookStands new cabinet_history
   pub streams : streams_in new ≡ with_last (streams_in old) stream item
@@ -115,7 +116,7 @@ pub record IsLengthened (old new : Book) (stream : Stream) (item : Item) : Type 
   pub written : written_in new ≡ written_in old
   pub answered : answered_in new ≡ answered_in old
 
--- an item more stands at the end of a stream, and was brought at once
+-- an item more is at the end of a stream, and was brought at once
 pub record IsBroughtAtEnd (old new : Book) (stream : Stream) (item : Item) : Type 0 where
   pub stands : (cabinet_history : CabinetHistory) → BookStands old cabinet_history → BookStands new cabinet_history
   pub streams : streams_in new ≡ with_last (streams_in old) stream item
@@ -133,7 +134,7 @@ pub record HasOnlyRoom (old new : Book) : Type 0 where
   pub left : new.left ≡ old.left
   pub happened : IsSameRound old.happened new.happened
 
--- nothing that a contract tells of a book has changed
+-- nothing that a contract says about a book has changed
 pub record IsAsBefore (old new : Book) : Type 0 where
   pub cabinet_histories : (cabinet_history : CabinetHistory) → BookStands old cabinet_history → BookStands new cabinet_history
   pub no_others : (cabinet_history : CabinetHistory) → BookStands new cabinet_history → BookStands old cabinet_history
@@ -145,8 +146,8 @@ pub record IsAsBefore (old new : Book) : Type 0 where
   pub left : (p : ℕ) → left_of new p ≡ left_of old p
   pub ticks : ticks_by_end new ≡ ticks_by_end old
 
--- the book now is what the first has come to by passes that brought items of the same round: it has the same streams, the round of
--- each began at the same cabinet histories, and the cabinet will have had as many ticks by its end
+-- the book now is what the first has reached by passes that brought items of the same round: it has the same streams,
+-- the round of each began at the same cabinet histories, and the cabinet will have had as many ticks by its end
 pub record Replays (first now : Book) : Type 0 where
   pub streams : streams_in now ≡ streams_in first
   pub cabinet_histories : (cabinet_history : CabinetHistory) → BookStands first cabinet_history → BookStands now cabinet_history

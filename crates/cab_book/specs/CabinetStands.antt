@@ -1,4 +1,4 @@
--- What a cabinet of a book stands for: a cabinet history.
+-- What a cabinet of a book represents: a cabinet history.
 use Rattle.std.specs.Prelude.{ℕ, pos, ◌+◌, ◌≡◌, ◌≤◌, ◌<◌, List, [], ◌∷◌, length, Option}
 use Rattle.sig_tables.specs.Past.{Past, History, Event, SetDrift}
 use Rattle.sig_tables.specs.Seen.{frame_seen}
@@ -32,7 +32,7 @@ pub record IsShowable (past : Past) : Type 0 where
   pub counter : (frame_seen past).counter ≤ 2147483647
   pub target : (frame_seen past).target ≤ 2147483647
 
--- what a cabinet history has come to can be gone on with, after N ticks
+-- what a cabinet history has reached can be continued with, after N ticks
 pub record IsSound (n : ℕ) (has : Coming) : Type 0 where
   pub ticks : n + 1 ≡ length (frames has.history)
   pub shows : IsShowable (past_of has)
@@ -48,7 +48,7 @@ blank_ask = record {
   wish = GetWish;
 }
 
--- a control and a stage stand for what a cabinet history has come to
+-- a control and a stage represent what a cabinet history has reached
 pub record CabinetKeeps (c : Cabinet) (has : Coming) : Type 0 where
   pub control : ControlStands c.control has.history
   pub stage : StageStands c.stage has.calls

@@ -1,4 +1,4 @@
--- What gives the frames of a cabinet stands for a history, whichever it is.
+-- What gives the frames of a cabinet represents a history, whichever it is.
 use Rattle.std.specs.Prelude.{ℕ}
 use Rattle.sig_tables.specs.Past.{Past, History}
 use Rattle.sig_tables.specs.Decide.{past_at}
@@ -17,7 +17,7 @@ abbrev pub ControlKeeps : Control → Past → Type 0
 ControlKeeps (Registers c) past = EngineKeeps RegistersStand c past
 ControlKeeps (LookingBack o) past = EngineKeeps SeesBack o past
 
--- it stands for a history
+-- it represents a history
 abbrev pub ControlStands : Control → History → Type 0
 ControlStands c h = ControlKeeps c (past_at h)
 

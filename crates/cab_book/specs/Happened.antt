@@ -1,4 +1,4 @@
--- What a round has come to so far, as it is kept: its journal, the frames that have a line, and the replies.
+-- What a round has reached so far, as it is kept: its journal, the frames that have a line, and the replies.
 use Rattle.std.specs.Prelude.{ℕ, ◌≡◌, ◌≤◌, ◌+◌, List, [], ◌∷◌, ◌++◌, length, replicate, map, vec_len, vec_capacity}
 use Rattle.sig_types.specs.declared.frame.Frame.{Frame}
 use Rattle.cabinet_history.specs.declared.Reply.{Reply}
@@ -21,7 +21,8 @@ written_of h = h.written.items
 abbrev pub answered_of : Happened → List Answered
 answered_of h = h.replies.items
 
--- there is room for so many ticks, so many frames from elsewhere and so many items in all, beside what there is
+-- there is room for that many ticks, that many frames from elsewhere and that many items in all, in addition to what
+-- there is
 pub record HasRoom (h : Happened) (ticks frames items : ℕ) : Type 0 where
   pub written : vec_len h.written + ticks ≤ vec_capacity h.written
   pub replies : vec_len h.replies + frames ≤ vec_capacity h.replies
@@ -40,7 +41,7 @@ pub record IsWritten (h : Happened) (cabinet_history : CabinetHistory) (acts : L
   pub order : interleaved 0 (written_of h) (answered_of h) ≡ acts_happenings cabinet_history acts
   pub counts : AreInOrder 0 (answered_of h) (length (written_of h))
 
--- replies that came behind so many of the frames
+-- replies that came after that many of the frames
 abbrev pub behind : ℕ → List Reply → List Answered
 behind many replies = map (λ r. record { reply = r; behind = many }) replies
 
@@ -50,7 +51,7 @@ pub record HappenedGoesOn (old new : Happened) (pass : ℕ) (frames : List (ℕ 
   pub written : written_of new ≡ written_of old ++ frames
   pub replies : answered_of new ≡ answered_of old ++ behind (length (written_of old)) told
 
--- a pass has brought so many ticks, which have given these frames
+-- a pass has brought that many ticks, which have given these frames
 pub record TicksOn (old new : Happened) (pass many : ℕ) (frames : List (ℕ × Frame)) : Type 0 where
   pub journal : journal_in new ≡ journal_in old ++ replicate many pass
   pub written : written_of new ≡ written_of old ++ frames

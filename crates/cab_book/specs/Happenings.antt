@@ -1,5 +1,5 @@
--- What of a round has a line, in the order in which it came: frames of the cabinet with the number of their tick, and replies. The
--- code keeps the two apart; each reply then stands behind so many of the frames.
+-- What of a round has a line, in the order in which it came: frames of the cabinet with the number of their tick, and
+-- replies. The code keeps the two apart; each reply then follows that many of the frames.
 use Rattle.std.specs.Prelude.{ℕ, ◌-◌, ◌≤◌, List, [], ◌∷◌, ◌++◌, map, take, drop}
 use Rattle.sig_types.specs.declared.frame.Frame.{Frame}
 use Rattle.sig_types.specs.Items.{Item}
@@ -22,17 +22,17 @@ abbrev pub acts_happenings : CabinetHistory → List Act → List Happening
 acts_happenings cabinet_history [] = []
 acts_happenings cabinet_history (act ∷ acts) = item_happenings cabinet_history act.pass act.item ++ acts_happenings (with_item cabinet_history act.item) acts
 
--- frames and replies in the order in which they came, after so many frames: each reply stands behind as many as it says
+-- frames and replies in the order in which they came, after that many frames: each reply follows as many as it says
 abbrev pub interleaved : ℕ → List (ℕ × Frame) → List Answered → List Happening
 interleaved before frames [] = map Wrote frames
 interleaved before frames (a ∷ answered) =
     map Wrote (take (a.behind - before) frames) ++ (Replied a.reply ∷ interleaved a.behind (drop (a.behind - before) frames) answered)
 
--- each reply stands behind no fewer frames than the one before it, and behind at most so many
+-- each reply follows no fewer frames than the one before it, and after at most that many
 abbrev pub AreInOrder : ℕ → List Answered → ℕ → Type 0
 AreInOrder before [] most = before ≤ most
 AreInOrder before (a ∷ answered) most = (before ≤ a.behind) × AreInOrder a.behind answered most
 
--- the replies alone
+-- only the replies
 abbrev pub replies_in : List Answered → List Reply
 replies_in answered = map (λ a. a.reply) answered

@@ -17,7 +17,7 @@ ticks_left left = get_or left 4 0 + get_or left 5 0 + get_or left 6 0 + get_or l
 abbrev pub ticks_brought : List ℕ → ℕ
 ticks_brought journal = times 4 journal + times 5 journal + times 6 journal + times 7 journal
 
--- of some ticks, the greater half and the lesser
+-- of some ticks, the greater half and the smaller
 abbrev pub greater_half : ℕ → ℕ
 greater_half ticks = ticks - ticks / 2
 

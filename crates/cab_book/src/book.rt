@@ -1,6 +1,7 @@
-//! The book of a cabinet: the cabinet, the streams of the round under way, how many items of each pass are left, and what the round has
-//! come to so far. Any pass may bring the next item of its stream at any time, and an item that comes behind all of its stream is
-//! brought at once. Only a new book, the start of a round and such an item take memory.
+//! The book of a cabinet: the cabinet, the streams of the round under way, how many items of each pass are left, and
+//! what the round has reached so far. Any pass may bring the next item of its stream at any time, and an item that
+//! comes after all of its stream is brought at once. Only a new book, the start of a round and such an item take
+//! memory.
 
 ghost use Rattle.std.specs.Prelude.{◌≡◌, ◌≢◌, ◌<◌, ◌≤◌, ◌+◌, ◌-◌, ◌⊎◌, ◌++◌, ◌∷◌, [], ℕ, OnOk, OnErr, IfOk, IfErr, length, replicate, map, get_or};
 ghost use Rattle.sig_tables.specs.Decide.{last_frame_of, past_at};
@@ -49,7 +50,7 @@ fn frames_of(streams: &Streams, way: Way) -> &[Octets]
     }
 }
 
-/// An input more stands at the end of the others. Where memory is wanting all streams are as before.
+/// An input more is at the end of the others. Where memory ran out all streams are as before.
 fn push_field(streams: &mut Streams, field: Field) -> Result<(), NoMemory>
     ensures items { OnOk result (items_of streams.new ≡ with_last (items_of streams.old) Inputs (InputTold field)) }
     ensures fields { OnOk result (streams.new.fields.items ≡ streams.old.fields.items ++ field ∷ []) }
@@ -62,7 +63,7 @@ fn push_field(streams: &mut Streams, field: Field) -> Result<(), NoMemory>
     }
 }
 
-/// A frame more stands at the end of those of its stream. Where memory is wanting all streams are as before.
+/// A frame more is at the end of those of its stream. Where memory ran out all streams are as before.
 fn push_frame(streams: &mut Streams, way: Way, octets: Octets) -> Result<(), NoMemory>
     ensures items { OnOk result (items_of streams.new ≡ with_last (items_of streams.old) (Messages way) (Came octets.items)) }
     ensures no_memory { OnErr result (items_of streams.new ≡ items_of streams.old) }
@@ -79,7 +80,7 @@ fn push_frame(streams: &mut Streams, way: Way, octets: Octets) -> Result<(), NoM
     }
 }
 
-/// The octets of the next of these frames, where so many are left.
+/// The octets of the next of these frames, where that many are left.
 #[tactic(auto, using(crate::proofs::Texts::text_at))]
 fn next_of(frames: &[Octets], left: u32) -> &[u8]
     requires some { 0 < left }
@@ -106,7 +107,7 @@ pub struct Book {
     // what is left and what was brought are all items, and the streams are short
     ghost tallied: { AreTallied streams left happened },
     ghost short: { AreShort streams },
-    // the round began at some cabinet history that the cabinet stood for
+    // the round began at some cabinet history that the cabinet represented
     ghost some: { ∥ ((cabinet_history : CabinetHistory) × RoundStands cabinet.value streams happened cabinet_history) ∥₁ },
 }
 
@@ -136,8 +137,8 @@ impl Book {
         }
     }
 
-    /// Begins a round with these streams; what was left of the round before is dropped. Room for the whole round is taken here.
-    /// Where memory is wanting the streams come back, and the book is as before.
+    /// Begins a round with these streams; what was left of the round before is dropped. Room for the whole round is
+    /// taken here. Where memory ran out the streams come back, and the book is as before.
     pub fn open_round(&mut self, alloc: Global, streams: Streams) -> Result<(), (Streams, NoMemory)>
         requires can { CanBeTaken streams }
         requires few { ticks_by_end self.old + streams.ticks ≤ 4294967294 }
@@ -286,8 +287,8 @@ impl Book {
         ticks
     }
 
-    /// An input comes behind all others of the round, which were brought, and is brought at once. Where memory is wanting the book is
-    /// as before.
+    /// An input comes after all others of the round, which were brought, and is brought at once. Where memory ran out
+    /// the book is as before.
     pub fn bring_input(&mut self, field: Field) -> Result<(), NoMemory>
         requires place { NamesPlace field }
         requires none { left_of self.old (number_of Inputs) ≡ 0 }
@@ -303,8 +304,8 @@ impl Book {
         Ok(())
     }
 
-    /// A frame comes behind all others of its stream, which were brought, and is brought at once: its reply is the last. Where memory
-    /// is wanting the book is as before.
+    /// A frame comes after all others of its stream, which were brought, and is brought at once: its reply is the last.
+    /// Where memory ran out the book is as before.
     pub fn bring_frame(&mut self, way: Way, octets: Octets) -> Result<(), NoMemory>
         requires none { left_of self.old (pass_of way) ≡ 0 }
         requires few { length (get_or (streams_in self.old) (pass_of way) []) < 2147483648 }
@@ -332,7 +333,8 @@ impl Book {
         }
     }
 
-    /// An input comes behind all others of the round, and is left to be brought. Where memory is wanting the book is as before.
+    /// An input comes after all others of the round, and is left to be brought. Where memory ran out the book is as
+    /// before.
     fn add_input(&mut self, field: Field) -> Result<(), NoMemory>
         requires place { NamesPlace field }
         requires few { length (get_or (streams_in self.old) (number_of Inputs) []) < 2147483648 }
@@ -351,7 +353,8 @@ impl Book {
         Ok(())
     }
 
-    /// A frame comes behind all others of its stream, and is left to be brought. Where memory is wanting the book is as before.
+    /// A frame comes after all others of its stream, and is left to be brought. Where memory ran out the book is as
+    /// before.
     fn add_frame(&mut self, way: Way, octets: Octets) -> Result<(), NoMemory>
         requires few { length (get_or (streams_in self.old) (pass_of way) []) < 2147483648 }
         ensures added { OnOk result (IsLengthened self.old self.new (Messages way) (Came octets.items)) }
@@ -391,7 +394,7 @@ impl Book {
         self.left[pass as usize] -= 1;
     }
 
-    /// The next frame of a stream of messages comes to the cabinet.
+    /// The next frame of a stream of messages arrives at the cabinet.
     fn receive(&mut self, way: Way)
         requires some { 0 < left_of self.old (pass_of way) }
         ensures { IsBrought self.old self.new (pass_of way) }
@@ -432,7 +435,7 @@ impl Book {
         self.happened.written()
     }
 
-    /// The replies of the round, each behind as many of these frames as came before it.
+    /// The replies of the round, each after as many of these frames as came before it.
     pub fn replies(&self) -> &[Answered]
         ensures { result.now ≡ answered_in self.now }
     {

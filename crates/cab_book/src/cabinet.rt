@@ -35,7 +35,7 @@ pub struct Cabinet {
     ask: Ask,
 }
 
-/// What a cabinet tells of a frame: the answer, or silence, and the end of a load where the frame brought one.
+/// What a cabinet says about a frame: the answer, or silence, and the end of a load where the frame brought one.
 #[derive(Drop)]
 pub struct Received {
     pub text: Option<Octets>,

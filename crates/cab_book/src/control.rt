@@ -1,5 +1,6 @@
-//! What gives the frames of a cabinet: a controller, which is the engine over registers, or an observer, which is the engine over a
-//! memory that looks back. A run takes the one and the check of a trace the other, and by these contracts nobody can tell them apart.
+//! What gives the frames of a cabinet: a controller, which is the engine over registers, or an observer, which is the
+//! engine over a memory that looks back. A run takes the one and the check of a trace the other, and by these contracts
+//! nobody can distinguish them.
 ghost use Rattle.std.specs.Prelude.{◌≡◌, ◌<◌, ◌≤◌, ◌+◌, IfOk, IfErr};
 
 use controller::Controller;

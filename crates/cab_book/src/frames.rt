@@ -28,7 +28,8 @@ fn is_as_before(last: &Frame, next: &Frame) -> bool
     last.mode == next.mode && last.version == next.version
 }
 
-/// Whether a frame shows what the one before showed: colours, signals, mode and version. What is told soonest is looked at first.
+/// Whether a frame shows what the one before showed: colours, signals, mode and version. What is reported soonest is
+/// looked at first.
 fn shows_same(last: &Frame, next: &Frame) -> bool
     ensures { result ≡ shows_same last.now next.now }
 {
@@ -38,7 +39,7 @@ fn shows_same(last: &Frame, next: &Frame) -> bool
     same_colours(&last.veh, &next.veh) && same_signals(&last.ped, &next.ped)
 }
 
-/// Whether a frame in step with a pattern has the counter 0, where the one before hadn't or wasn't in step with it.
+/// Whether a frame coordinated in a pattern has the counter 0, where the one before hadn't or wasn't coordinated in it.
 fn is_local_zero(last: &Frame, next: &Frame) -> bool
     ensures { result ≡ is_local_zero next.now.mode next.now.counter last.now }
 {

@@ -1,5 +1,6 @@
-//! What a round of a cabinet has come to so far: its journal, the frames that have a line, and the replies, each behind as many of
-//! the frames as came before it. Room for the whole round is taken at its start, and for an item that comes behind, with it.
+//! What a round of a cabinet has reached so far: its journal, the frames that have a line, and the replies, each after
+//! as many of the frames as came before it. Room for the whole round is taken at its start, and for an item that comes
+//! after, with it.
 
 ghost use Rattle.std.specs.Prelude.{◌≡◌, ◌≤◌, ◌<◌, ◌+◌, ℕ, [], ◌∷◌, IfOk, OnOk, option_to_list, vec_capacity};
 ghost use Rattle.sig_types.specs.Passes.{number_of};
@@ -12,14 +13,14 @@ use cabinet_history::Reply;
 use sig_types::{Frame, NoMemory, Stream};
 use std::alloc::{AllocError, Global};
 
-/// A reply, and behind how many of the frames of its round that have a line it came.
+/// A reply, and after how many of the frames of its round that have a line it came.
 #[derive(Drop)]
 pub struct Answered {
     pub reply: Reply,
     pub behind: u32,
 }
 
-/// What a round has come to so far.
+/// What a round has reached so far.
 #[derive(Drop)]
 pub struct Happened {
     journal: Journal,
@@ -78,8 +79,8 @@ impl Happened {
         })
     }
 
-    /// Takes room for this number of frames from elsewhere and this number of items in all, besides those kept. Nothing else
-    /// changes, even if memory runs out.
+    /// Takes room for this number of frames from elsewhere and this number of items in all, in addition to those kept.
+    /// Nothing else changes, even if memory runs out.
     pub fn reserve(&mut self, frames: usize, items: usize) -> Result<(), NoMemory>
         ensures room { OnOk result ((ticks : ℕ) → HasRoom self.old ticks 0 0 → HasRoom self.new ticks frames items) }
         ensures kept { (ticks others all : ℕ) → HasRoom self.old ticks others all → HasRoom self.new ticks others all }

@@ -93,7 +93,7 @@ impl Journal {
     }
 }
 
-/// Puts a pass so many times behind the first runs, in the place of what stands there: how many runs these are then.
+/// Puts a pass that many times after the first runs, in the place of what is there: how many runs these are then.
 fn put_run(runs: &mut [(u32, u32)], kept: usize, pass: u32, count: u32) -> usize
     requires room { kept < length runs.old }
     requires few { times pass (passes_of (take kept runs.old)) + count ≤ 4294967295 }

@@ -1,6 +1,6 @@
-//! The book of a cabinet: its controller (or an observer, who looks back), its download stage and the community of those who may
-//! ask it; what it hears, what it answers and what it shows; and what a round has come to, pass by pass. Only a new book, the start of
-//! a round and an item that comes behind its stream take memory.
+//! The book of a cabinet: its controller (or an observer, who looks back), its download stage and the community of
+//! those who may ask it; its inputs and messages, its answers and its displays; and the state of a round, pass by pass.
+//! Only a new book, the start of a round and an item that follows its stream take memory.
 #![tactic(auto)]
 
 mod book;

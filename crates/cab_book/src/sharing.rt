@@ -3,7 +3,7 @@
 ghost use Rattle.std.specs.Prelude.{◌≡◌, ◌⊎◌, ◌-◌, ◌/◌, ◌≤◌, ◌+◌};
 ghost use Rattle.cab_book.specs.Shares.{read_pass, shares, greater_half, lesser_half};
 
-/// The greater half of some ticks, and the lesser.
+/// The greater half of some ticks, and the smaller.
 fn halves(ticks: u32) -> (u32, u32)
     ensures greater { result.0 ≡ greater_half ticks }
     ensures lesser { result.1 ≡ lesser_half ticks }

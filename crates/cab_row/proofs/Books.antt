@@ -49,7 +49,7 @@ module _ {A : Type 0} (R : A → A → Type 0) where
   zip_set (x ∷ xs) (y ∷ ys) zero w on less h k = (on x y w h.0 (k y), h.1)
   zip_set (x ∷ xs) (y ∷ ys) (suc i) w on less h k = (h.0, zip_set xs ys i w on (omega arith) h.1 k)
 
--- lists that stand side by side, element by element
+-- lists that are side by side, element by element
 pub zip_of : {A : Type 0} (R : A → A → Type 0) (xs ys : List A) → length ys ≡ length xs → ((c : ℕ) (x : A) → get_elem? xs c ≡ some x → (y : A) × (get_elem? ys c ≡ some y) × R x y) → AllZip R xs ys
 zip_of R [] [] e h = tt
 zip_of R (x ∷ xs) [] e h = absurd (omega arith)

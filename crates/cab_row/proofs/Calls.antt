@@ -52,7 +52,7 @@ own_finished opening passes n i many j v k = record {
   only = λ p c ne. omega (arith, k.only p c ne, count_done p c i many (holding v i j), total-zeros (is_pair p c) many (v.number, i) (ap (λ m. is_pair p c (m, i)) k.number_is ∙ is_pair_none p n c i ne));
 }
 
--- so many more are done at the cabinet i
+-- that many more are done at the cabinet i
 pub done_after : (done : List ℕ) (n i many x : ℕ) (v w : View) → w.done ≡ v.done ++ replicate many (n, i) → length done ≡ 64 → x ≡ get_or done i 0 + many → i < 64
     → ((c : ℕ) → c < 64 → get_or done c 0 ≡ count n c v)
     → (c : ℕ) → c < 64 → get_or (set done i x) c 0 ≡ count n c w
@@ -70,7 +70,7 @@ brought_done v w c many h = ap (λ (x : View). x.done) h.2
 pub brought_one : (v w : View) (c many : ℕ) → 1 ≤ many → many ≤ 1 → HasBrought v w c many → HasActed v w c
 brought_one v w c many least most h = let one : many ≡ 1 = omega (arith, least, most) in subst (λ n. HasBrought v w c n) one h
 
--- the word that an answer tells
+-- the word that an answer says
 abbrev pub word_told : Act → ℕ
 word_told Done = 0
 word_told (Busy word) = word
@@ -114,7 +114,7 @@ module _ {B : Type 0} where
   )
 
 module _ {B : Type 0} (code : B → Gv) (journal : B → List ℕ) (left_of : B → ℕ → ℕ) (Replays : B → B → Type 0) where
-  -- the book that was taken has so many items left of this pass
+  -- the book that was taken has this number of items left of this pass
   pub has_items : (books : List B) (passes n i r most : ℕ) (v : View) (m : Sat B) (b : B) → IsOwn (map code books) passes n v → m ≡ (looked v i r, []) → i < length books
       → Since code journal left_of Replays m.0.opening i b → times m.0.number (journal b) ≡ count m.0.number i m.0
       → ((first : B) → get_elem? books i ≡ some first → count n i v + most ≤ left_of first n) → most ≤ left_of b n

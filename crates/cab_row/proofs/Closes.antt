@@ -24,7 +24,7 @@ now_false [] i = refl
 now_false (x ∷ xs) zero = refl
 now_false (x ∷ xs) (suc i) = now_false xs i
 
--- one book more stands in the list
+-- one book more is in the list
 pub one_taken : {B : Type 0} (room more : List B) (b : B) (items : List B) (c : ℕ) → more ≡ room ++ b ∷ [] → get_elem? items c ≡ some b → room ++ drop c items ≡ items → more ++ drop (c + 1) items ≡ items
 one_taken room more b items c e at h = let n : c + 1 ≡ suc c = omega arith in
     ap (λ l. l ++ drop (c + 1) items) e ∙ (append_assoc room (b ∷ []) (drop (c + 1) items) ∙ (ap (λ l. room ++ l) (ap (λ k. b ∷ drop k items) n ∙ sym (drop_at items c b at)) ∙ h))

@@ -1,4 +1,4 @@
--- Workers of whom the last one worked beside the others, and came behind them again.
+-- Workers of whom the last one worked next to the others, and came after them again.
 use Rattle.std.proofs.Common.{◌≡◌, ℕ, ◌+◌, ◌++◌, ◌∷◌, [], All, Vec, vec_len, vec_capacity, ap, sym, subst, ◌∙◌, arith}
 use Rattle.std.proofs.lemmas.List.Elements.{All-push}
 use base.Stored.{Gv}

@@ -74,7 +74,7 @@ is_pair_none p n c i ne = ap (λ b. cond b (cond (eqb i c) 1 0) 0) (ne_eqb n p (
 pub count_done : (p d c k : ℕ) (v : View) → count p d (finished_with v c k) ≡ count p d v + total (is_pair p d) (replicate k (v.number, c))
 count_done p d c k v = omega (arith, total-append (is_pair p d) v.done (replicate k (v.number, c)))
 
--- how often a number stands among k times another, and among k times itself
+-- how often a number is among k times another, and among k times itself
 times_none : (p n k : ℕ) → p ≢ n → times p (replicate k n) ≡ 0
 times_none p n k ne = total-zeros (is_one p) k n (one_other p n (λ z. ne (sym z)))
 
@@ -145,7 +145,7 @@ module _ {B : Type 0} (code : B → Gv) (journal : B → List ℕ) (left : B →
     pub own_count : (id p c : ℕ) (v : View) → get_elem? s.views id ≡ some v → owns p v ≡ 1 → total (count p c) s.views ≡ count p c v
     own_count id p c v at one = total-only (count p c) s.views id v at (λ j u ne there. (k.knows j u there).idle p c (one_owner id j p v u at one ne there))
 
-    -- a number that was not given stands in no journal
+    -- a number that was not given is in no journal
     pub none_yet : (p c : ℕ) → k.given ≤ p → total (count p c) s.views ≡ 0
     none_yet p c h = total-none (count p c) s.views (λ j u there. (k.knows j u there).idle p c (omega (arith, term_le (owns p) s.views j u there, k.owned p, given_no p k.given h)))
 
@@ -306,7 +306,7 @@ module _ {B : Type 0} (code : B → Gv) (journal : B → List ℕ) (left : B →
         gives = total-same (λ x. x.given) s.views id v w at refl ∙ k.gives;
       }
 
-  -- the `fetch_add` gives the book back, with so many items more
+  -- the `fetch_add` gives the book back, with that many items more
   pub may_finish : (books : List B) (passes slots id c many more : ℕ) (v : View) (b : B) → v.holds ≡ Some c → 1 ≤ many → more + 1 ≡ 2 * many → journal b ≡ v.taken ++ replicate many v.number → Since code journal left Replays v.opening c b
       → Allows (RowKeeps code journal left Replays books passes) slots id (v, (c, b) ∷ []) c (λ n. (n + more) % 18446744073709551616) (finishes (step slots c more 0 none) (v, (c, b) ∷ []))
   may_finish books passes slots id c many more v b holds some_more rise grown since s k wide at _ = let mine = k.knows id v at in let t = mine.held c holds in

@@ -23,7 +23,7 @@ passes_in workers = total (λ w. vec_len w.passes) workers
 abbrev pub InTurn : ℕ → List Worker → Type 0
 InTurn count workers = (place : ℕ) (d : Worker) → place < length workers → All (λ x. x.number % count ≡ place) (slice_index_or workers place d).passes.items
 
--- these are the workers with the passes that they had, in whatever order a worker's passes stand
+-- these are the workers with the passes that they had, in any order of a worker's passes
 pub record HaveWorked {B : Type 0} (code : B → Gv) (left_of : B → ℕ → ℕ) (row : Row B) (before after : Vec Worker Global) : Type 0 where
   pub ready : All (λ w. IsReady code left_of row w) after.items
   pub count : passes_in after.items ≡ passes_in before.items

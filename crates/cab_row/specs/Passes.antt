@@ -28,7 +28,7 @@ pub record IsOwn (opening : List Gv) (passes number : ℕ) (v : View) : Type 0 w
   pub number_is : v.number ≡ number
   pub numbers : v.numbers ≡ number ∷ []
   pub free : v.holds ≡ None
-  -- it counts its own items alone
+  -- it counts only its own items
   pub only : (p c : ℕ) → p ≢ number → count p c v ≡ 0
 
 module _ {B : Type 0} where
@@ -87,7 +87,7 @@ HasActed v w c = (seen : ℕ) × (seen % 2 ≡ 0) × (w ≡ finished (looked v c
 abbrev pub HasBrought : View → View → ℕ → ℕ → Type 0
 HasBrought v w c k = (seen : ℕ) × (seen % 2 ≡ 0) × (w ≡ finished_with (looked v c seen) c k)
 
--- Busy: it looked and found an odd word; or it looked, found the word even, and then found another than that
+-- Busy: it looked and found an odd word; or it looked, found the word even, and then found one different from that
 abbrev pub WasMet : View → View → ℕ → ℕ → Type 0
 WasMet v w c word = ((word % 2 ≡ 1) × (w ≡ looked v c word)) ⊎ ((seen : ℕ) × (seen % 2 ≡ 0) × (word ≢ seen) × (w ≡ looked (looked v c seen) c word))
 
@@ -95,7 +95,8 @@ WasMet v w c word = ((word % 2 ≡ 1) × (w ≡ looked v c word)) ⊎ ((seen : �
 abbrev pub SameCounts : View → View → Type 0
 SameCounts v w = ((p c : ℕ) → count p c w ≡ count p c v) × ((c : ℕ) → added c w ≡ added c v)
 
--- the last look was made in this call and found the word there: an odd one, or another than the look before, also in this call, found there
+-- the last look was made in this call and found the word there: an odd one, or one different from the look before, also
+-- in this call, found there
 abbrev pub HasSeen : View → View → ℕ → ℕ → Type 0
 HasSeen v w c word = (v.looks < w.looks) × (w.last ≡ (c, word))
     × ((word % 2 ≡ 1) ⊎ ((v.looks + 2 ≤ w.looks) × (w.before.0 ≡ c) × (w.before.1 ≢ word)))

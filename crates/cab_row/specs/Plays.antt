@@ -1,5 +1,5 @@
--- What each step tells: of the step, the seat before, the number found and the seat after. Looking and taking are for a pass that
--- holds no cabinet, so that no pass ever meets itself.
+-- What each step says: of the step, the seat before, the number found and the seat after. Looking and taking are for a
+-- pass that holds no cabinet, so that no pass ever meets itself.
 use Rattle.std.specs.Prelude.{◌≡◌, ◌≢◌, ℕ, ◌+◌, ◌*◌, List, ◌∷◌, None}
 use base.Stored.{Gv}
 use Rattle.atomic_table.specs.Table.{Me, Step, rest}

@@ -16,7 +16,7 @@ module _ {B : Type 0} (code : B → Gv) (journal : B → List ℕ) (left : B →
   abbrev pub StandsFrom : B → B → Type 0
   StandsFrom first b = Replays first b × ((p : ℕ) → left b p + times p (journal b) ≡ left first p)
 
-  -- it stands so from the book that the cabinet was opened with
+  -- it is so from the book that the cabinet was opened with
   abbrev pub Since : List Gv → ℕ → B → Type 0
   Since opening c b = (first : B) → get_elem? opening c ≡ some (code first) → StandsFrom first b
 
@@ -29,7 +29,7 @@ module _ {B : Type 0} (code : B → Gv) (journal : B → List ℕ) (left : B →
     -- unless it is spent, and owns no number, it knows what the row was opened with
     pub opened : 0 < owns v.number v → (v.opening ≡ map code books) × (v.passes ≡ passes)
     pub giver : 0 < v.given → v.given ≡ given
-    -- it counts the items of its own numbers alone
+    -- it counts the items of only its own numbers
     pub idle : (p c : ℕ) → owns p v ≡ 0 → count p c v ≡ 0
     -- a view that holds a cabinet has its own number, and the word is one more than twice the length of the journal that it took
     pub holder : v.holds ≢ None → owns v.number v ≡ 1

@@ -11,7 +11,7 @@ total f (x ∷ xs) = f x + total f xs
 abbrev pub is_one : ℕ → ℕ → ℕ
 is_one p x = cond (x == p) 1 0
 
--- how often p stands in the list
+-- how often p is in the list
 abbrev pub times : ℕ → List ℕ → ℕ
 times p xs = total (is_one p) xs
 
@@ -71,7 +71,7 @@ holding v c journal = view v.opening v.passes v.given v.number v.numbers v.done 
 abbrev pub finished : View → ℕ → View
 finished v c = view v.opening v.passes v.given v.number v.numbers (v.done ++ (v.number, c) ∷ []) None [] v.looks v.last v.before
 
--- it has given the book back, with so many items more
+-- it has given the book back, with that many items more
 abbrev pub finished_with : View → ℕ → ℕ → View
 finished_with v c k = view v.opening v.passes v.given v.number v.numbers (v.done ++ replicate k (v.number, c)) None [] v.looks v.last v.before
 

@@ -91,7 +91,7 @@ impl<B: Logged> Row<B> {
         answer
     }
 
-    // One try of a pass that has so many items left at the cabinet, which is counted from 0.
+    // One attempt of a pass that has this number of items left at the cabinet; cabinets are counted from 0.
     fn turn(&self, seat: &mut Seat<B, View>, number: u32, c: usize, most: u32) -> Brought
         requires seat { (seat.old.table_id ≡ self.now.table.shared.table_id) × (seat.old.me.1 ≡ []) × IsOwn (map B.row.coded.code (books_of self.now)) self.now.passes number seat.old.me.0 }
         requires cab { c < length (books_of self.now) }
@@ -117,7 +117,8 @@ impl<B: Logged> Row<B> {
         Brought::Done(count)
     }
 
-    // Some next items of the pass come to the book that its seat has taken, which has so many left: how many these are.
+    // Some next items of the pass arrive at the book that its seat has taken, which has this number of items left;
+    // returns how many arrived.
     fn bring(&self, seat: &mut Seat<B, View>, number: u32, c: usize, most: u32) -> u32
         requires table { seat.old.table_id ≡ self.now.table.shared.table_id }
         requires some { 1 ≤ most }

@@ -8,7 +8,7 @@ use crate::worker::Worker;
 use crate::{Logged, Pass, Row};
 use std::alloc::{AllocError, Global};
 
-/// So many workers, each with room for eight passes.
+/// That many workers, each with room for eight passes.
 pub(crate) fn idle(alloc: Global, workers: u32) -> Result<Vec<Worker>, AllocError>
     ensures { IfOk result (λ v. (vec_len v ≡ workers) × All IsIdle v.items) }
 {
@@ -36,7 +36,7 @@ pub(crate) fn hand_out<B: Logged>(row: &Row<B>, list: &mut Vec<Pass>, workers: &
     }
 }
 
-/// Takes all passes back, in whatever order.
+/// Takes all passes back, in any order.
 pub(crate) fn collect<B: Logged>(row: &Row<B>, mut workers: Vec<Worker>, list: &mut Vec<Pass>)
     requires ready { All (λ w. IsReady B.row.coded.code B.left_of row.now w) workers.items }
     requires list { (list.old.items ≡ []) × (passes_in workers.items ≤ vec_capacity list.old) }

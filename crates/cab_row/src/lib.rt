@@ -1,7 +1,7 @@
-//! Cabinets shared by threads: books that several passes change in turn, with no lock and no call that waits; and a
-//! round by several workers, each in a thread of its own. A word guards each book; it is odd while a pass has the book
-//! and otherwise it is twice the number of items applied so far. A pass that meets another at a cabinet learns that,
-//! and continues elsewhere.
+//! Cabinets shared by threads: books that several passes change in turn, without a lock and without a call that waits;
+//! and a round by several workers, each in its own thread. A word guards each book; it is odd while a pass has the
+//! book, and otherwise it is twice the number of items applied so far. A pass that finds another one at a cabinet
+//! continues elsewhere.
 #![tactic(auto)]
 
 mod act;

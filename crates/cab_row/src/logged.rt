@@ -23,8 +23,8 @@ pub trait Logged {
         ensures others { (p : ℕ) → p ≢ pass → left_of self.new p ≡ left_of self.old p }
         ensures replays { (first : Self) → replays first self.old → replays first self.new };
 
-    /// Applies the next items of the pass, at least one and at most so many: how many these are. It takes no memory. A
-    /// value that says nothing of it applies one.
+    /// Applies the next items of the pass, at least one and at most that many: how many these are. It takes no memory.
+    /// A value that says nothing of it applies one.
     fn apply_some(&mut self, pass: u32, most: u32) -> u32
         requires some { 1 ≤ most }
         requires within { most ≤ left_of self.old pass }

@@ -1,4 +1,4 @@
-//! A row opens: the books move behind its words, and each pass gets its number. All memory of a row is taken here.
+//! A row opens: the books move after its words, and each pass gets its number. All memory of a row is taken here.
 ghost use Rattle.std.specs.Prelude.{◌≡◌, ℕ, ◌<◌, ◌≤◌, [], length, map, All, vec_len, vec_capacity, IfOk, IfErr};
 ghost use mathlib.Core.Option.{some};
 ghost use lib.ListN.{get_elem?};
@@ -43,8 +43,8 @@ fn deal<B: Logged>(row: &Row<B>, mut first: Seat<B, View>, list: &mut Vec<Pass>)
 }
 
 impl<B: Logged> Row<B> {
-    /// Opens a row over 1 to 64 books with empty journals, for 1 to 8 passes; the pass at place p of the list, counted from 0, is
-    /// pass p. Where memory is wanting, the books come back as they were.
+    /// Opens a row over 1 to 64 books with empty journals, for 1 to 8 passes; the pass at place p of the list, counted
+    /// from 0, is pass p. Where memory ran out, the books come back as they were.
     pub fn open(
         alloc: Global,
         books: Vec<B>,

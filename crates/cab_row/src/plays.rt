@@ -1,5 +1,5 @@
-//! The rule of a row's table, and what each step on it tells. These types have no values that are used: they name facts for the
-//! proofs.
+//! The rule of a row's table, and what each step on it says. These types have no values that are used: they name facts
+//! for the proofs.
 ghost use Rattle.std.specs.Prelude.{map};
 ghost use Rattle.cab_row.specs.Views.{first_view, giver, newcomer, joined, spent};
 ghost use Rattle.cab_row.specs.Rule.{RowKeeps};

@@ -71,8 +71,8 @@ fn sweep<B: Logged, G: Gate>(row: &Row<B>, worker: &mut Worker, from: u32, gate:
     go_over(row, worker, 1, from - 1, gate) || met
 }
 
-// Where in a row of cabinets the worker at this place begins: four workers side by side are a quarter of the row apart, and the next
-// four stand between these.
+// Where in a row of cabinets the worker at this place begins: four workers side by side are a quarter of the row apart,
+// and the next four are between these.
 fn begins_at(cabinets: u32, place: usize) -> u32
     ensures { (1 ≤ result) × (result ≤ cabinets + 1) }
 {
@@ -169,8 +169,8 @@ fn work_beside<R: Threads + Sync, B: Logged + Send + Sync, G: Gate + Sync>(
     )
 }
 
-// All these workers work, the last one beside the others, and so on. This thread starts the others one after another, since a thread
-// that has to start others runs late, and these later still.
+// All these workers work, the last one next to the others, and so on. This thread starts the others one after another,
+// since a thread that has to start others runs late, and these later still.
 #[cycle(start)]
 fn work_from<R: Threads + Sync, B: Logged + Send + Sync, G: Gate + Sync>(
     rt: &R,

@@ -8,7 +8,7 @@ one_seen : (b : Bool) (x y n : ℕ) → n ≡ x + (if b then y + 1 else y) → n
 one_seen true x y n e = omega (arith, e)
 one_seen false x y n e = e
 
--- the item of a pass that stands at this place
+-- the item of a pass that is at this place
 abbrev pub act_at : List (List Item) → ℕ → ℕ → Act
 act_at streams p place = record { pass = p; item = get_or (get_or streams p []) place Ticked }
 
@@ -36,7 +36,7 @@ after-more cabinet_history (item ∷ items) more = after-more (with_item cabinet
 pub cabinet_history-more : (cabinet_history : CabinetHistory) (acts : List Act) (act : Act) → after cabinet_history (items_in (acts ++ act ∷ [])) ≡ with_item (after cabinet_history (items_in acts)) act.item
 cabinet_history-more cabinet_history acts act = ap (after cabinet_history) (items-more acts (act ∷ [])) ∙ after-more cabinet_history (items_in acts) (act.item ∷ [])
 
--- what each act tells, one after another
+-- what each act says, one after another
 pub told-more : {A : Type 0} (tells : CabinetHistory → Act → List A) (all : CabinetHistory → List Act → List A)
     → ((cabinet_history : CabinetHistory) → all cabinet_history [] ≡ [])
     → ((cabinet_history : CabinetHistory) (act : Act) (acts : List Act) → all cabinet_history (act ∷ acts) ≡ tells cabinet_history act ++ all (with_item cabinet_history act.item) acts)

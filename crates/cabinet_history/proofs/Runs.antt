@@ -3,7 +3,7 @@ use Rattle.std.proofs.Common.{◌≡◌, ℕ, zero, suc, ◌+◌, ◌==◌, ◌�
 use Rattle.std.proofs.lemmas.Bool.Decides.{eqb_tells}
 use Rattle.cabinet_history.specs.Journals.{with_run, runs_of, passes_of}
 
--- one pass behind some runs
+-- one pass after some runs
 abbrev pub with_last : List (ℕ × ℕ) → ℕ → List (ℕ × ℕ)
 with_last [] pass = (pass, 1) ∷ []
 with_last (run ∷ []) pass = if pass == run.0 then (run.0, run.1 + 1) ∷ [] else run ∷ (pass, 1) ∷ []

@@ -163,7 +163,7 @@ all-left h (order ∷ orders) =
     let rest = all-left (with_one h (order_event order)) orders in
     record { tables = rest.tables ∙ one.tables; version = rest.version ∙ one.version }
 
--- a call that is no finish, by what it did: nothing was put in force
+-- a call that is not a finish, by what it did: nothing was put in force
 call-whole : (opening : History) (c : Coming) (call : Call) (deed : Deed) → deeds (answered (call ∷ c.calls)) ≡ deed ∷ deeds_of c
     → accepted_by (deed ∷ deeds_of c) ≡ accepted_by (deeds_of c) → (is_under_way (deed ∷ deeds_of c) ≡ true → base_by (deed ∷ deeds_of c) ≡ in_force c)
     → (HaveIds (call ∷ c.calls) → HaveIds c.calls) → Whole opening c → Whole opening (record { history = c.history; calls = call ∷ c.calls })

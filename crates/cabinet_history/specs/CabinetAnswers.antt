@@ -1,4 +1,5 @@
--- What a cabinet tells of its items: the replies to frames, the ends of downloads, and the frames of ticks that have a line.
+-- What a cabinet says about its items: the replies to frames, the ends of downloads, and the frames of ticks that have
+-- a line.
 use Rattle.std.specs.Prelude.{ℕ, ◌+◌, List, [], ◌∷◌, ◌++◌, Option, Some, None, Ok, Err}
 use Rattle.arrayvec.specs.ArrayVec.{ArrayVec}
 use Rattle.sig_types.specs.declared.notes.StageAnswer.{StageAnswer}
@@ -30,7 +31,7 @@ use Rattle.cabinet_history.specs.Frames.{tick_written}
 abbrev pub set_of : List ℕ → PhaseSet
 set_of phases = record { 0 = bits (is_in phases) 16 1 }
 
--- what a cabinet shows beside its tables
+-- what a cabinet shows in addition to its tables
 abbrev pub shown_at : Past → Shown
 shown_at past = record {
   frame = frame_seen past;
@@ -51,7 +52,7 @@ seen_in c = record {
   last = last_answer (answered c.calls);
 }
 
--- the octets of the reply to what is asked, by what the cabinet has come to before it; silence where nothing is asked
+-- the octets of the reply to what is asked, by what the cabinet has reached before it; silence where nothing is asked
 abbrev pub replied : Coming → Option Ask → Option (List ℕ)
 replied c None = None
 replied c (Some ask) = Some (shortest (reply (seen_in c) ask.message ask.wish (outcome c ask.wish)))
@@ -90,7 +91,8 @@ abbrev pub in_frame : Option (List ℕ) → Option (ArrayVec ℕ)
 in_frame None = None
 in_frame (Some octets) = Some (record { items = octets })
 
--- what is told of an item that a pass brings after a cabinet history: of a frame the reply, which may be silence, and the end of a load
+-- what is reported of an item that a pass brings after a cabinet history: of a frame the reply, which may be silence,
+-- and the end of a load
 abbrev pub item_replies : CabinetHistory → ℕ → Item → List Reply
 item_replies cabinet_history pass (InputTold field) = []
 item_replies cabinet_history pass (Came octets) = record { pass = pass; text = in_frame (reply_to cabinet_history octets); load = load_end cabinet_history octets } ∷ []
@@ -102,7 +104,7 @@ item_written cabinet_history (InputTold field) = []
 item_written cabinet_history (Came octets) = []
 item_written cabinet_history Ticked = tick_written (history_of cabinet_history)
 
--- what is told of these acts, in order
+-- what is reported of these acts, in order
 abbrev pub acts_replies : CabinetHistory → List Act → List Reply
 acts_replies cabinet_history [] = []
 acts_replies cabinet_history (act ∷ acts) = item_replies cabinet_history act.pass act.item ++ acts_replies (with_item cabinet_history act.item) acts

@@ -3,7 +3,7 @@ use Rattle.std.specs.Prelude.{ℕ, List, [], ◌∷◌}
 use Rattle.sig_tables.specs.Past.{History}
 use Rattle.sig_types.specs.Items.{Item}
 
--- what a cabinet was opened with, the community of whoever may ask it, and what has come to it since
+-- what a cabinet was opened with, the community of those who may ask it, and what has reached it since
 pub record CabinetHistory : Type 0 where
   pub community : List ℕ
   pub opening : History

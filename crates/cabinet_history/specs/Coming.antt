@@ -1,5 +1,5 @@
--- What a cabinet history comes to: the history of the cabinet's controller, and the calls of its download stage, the newest first. A frame
--- stands for the calls that it asks for.
+-- What a cabinet history comes to: the history of the cabinet's controller, and the calls of its download stage, the
+-- newest first. A frame represents the calls that it asks for.
 use Rattle.std.specs.Prelude.{ℕ, Bool, List, [], ◌∷◌, map, Option, Some, None}
 use Rattle.sig_types.specs.declared.frame.Mode.TheVariants.{Flash}
 use Rattle.sig_types.specs.Colour.{same_mode}
@@ -25,7 +25,7 @@ pub record Coming : Type 0 where
   pub history : History
   pub calls : List Call
 
--- what the controller's history has come to
+-- what the controller's history has reached
 abbrev pub past_of : Coming → Past
 past_of c = past_at c.history
 
@@ -37,7 +37,7 @@ in_force c = (past_of c).tables
 abbrev pub is_flashing : Past → Bool
 is_flashing past = same_mode (last_frame past.moments).mode Flash
 
--- the call of the stage that a wish stands for, if it does for one
+-- the call of the stage that a wish represents, if it does for one
 abbrev pub call_of : Coming → Wish → Option Call
 call_of c (Begin id) = Some (BeginCall id (in_force c))
 call_of c (Part id number puts) = Some (PartCall id number (map put_content puts.items))
@@ -94,7 +94,7 @@ abbrev pub heeded : Coming → Option Ask → Coming
 heeded c None = c
 heeded c (Some ask) = carried_out c ask.wish
 
--- one item more comes to a cabinet of this community
+-- one item more arrives at a cabinet of this community
 abbrev pub with_item : List ℕ → Item → Coming → Coming
 with_item community (InputTold field) c = record { history = with_one c.history (Input field); calls = c.calls }
 with_item community (Came octets) c = heeded c (ask_of octets community (in_force c))

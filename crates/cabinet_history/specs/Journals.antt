@@ -1,13 +1,14 @@
--- The journal of a round: which pass brought the next item, time after time, in order. It tells what happened to the cabinet.
+-- The journal of a round: which pass brought the next item, time after time, in order. It says what happened to the
+-- cabinet.
 use Rattle.std.specs.Prelude.{ℕ, ◌+◌, ◌==◌, ◌≡◌, if◌then◌else◌, List, [], ◌∷◌, ◌++◌, length, replicate, get_or}
 use Rattle.sig_types.specs.Items.{Item, Ticked}
 
--- how often a number stands in a list
+-- how often a number is in a list
 abbrev pub times : ℕ → List ℕ → ℕ
 times p [] = 0
 times p (q ∷ qs) = if p == q then times p qs + 1 else times p qs
 
--- a journal of these streams: each pass stands in it just as often as its stream has items
+-- a journal of these streams: each pass is in it just as often as its stream has items
 abbrev pub IsMerge : List (List Item) → List ℕ → Type 0
 IsMerge streams journal = (p : ℕ) → times p journal ≡ length (get_or streams p [])
 
@@ -48,7 +49,7 @@ abbrev pub with_run : ℕ → List (ℕ × ℕ) → List (ℕ × ℕ)
 with_run pass [] = (pass, 1) ∷ []
 with_run pass (run ∷ runs) = if pass == run.0 then (pass, run.1 + 1) ∷ runs else (pass, 1) ∷ run ∷ runs
 
--- the longest runs of one pass in a journal: each a pass, and how often in a row it stands
+-- the longest runs of one pass in a journal: each a pass, and how often in a row it is
 abbrev pub runs_of : List ℕ → List (ℕ × ℕ)
 runs_of [] = []
 runs_of (pass ∷ journal) = with_run pass (runs_of journal)

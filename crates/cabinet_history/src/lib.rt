@@ -1,6 +1,6 @@
 //! What reaches a cabinet and what it reports, as definitions: its cabinet history item by item, the journal of a
-//! round, the result of it at its controller and its download stage, what is replied, and which frames have a line. The
-//! code that does it is in the crates above.
+//! round, the result at its controller and at its download stage, the replies, and which frames have a line. The code
+//! is in the crates above.
 #![tactic(auto)]
 
 use sig_types::{Broken, Octets};
@@ -17,8 +17,8 @@ pub struct Load {
     pub result: Result<u32, Broken>,
 }
 
-/// What a cabinet tells of a frame: the pass that brought it, the octets of the answer, or silence, and the end of a load where
-/// the frame brought one.
+/// What a cabinet says about a frame: the pass that brought it, the octets of the answer, or silence, and the end of a
+/// load where the frame brought one.
 #[derive(PartialEq, Drop)]
 pub struct Reply {
     pub pass: u32,

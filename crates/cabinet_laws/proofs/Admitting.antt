@@ -1,4 +1,5 @@
--- A cabinet history keeps the opening tables and drift of its history, and each event that it brings may come: tables are put in force only where they break no rule beside those then in force.
+-- A cabinet history keeps the opening tables and drift of its history, and each event that it brings may come: tables
+-- are put in force only where they break no rule together with those then in force.
 use Rattle.std.proofs.Common.{◌≡◌, List, [], ◌∷◌, Ok, Err, refl, sym, subst, inl, inr}
 use Rattle.std.specs.Prelude.{Bool}
 use Rattle.sig_types.specs.declared.notes.Broken.{Broken}

@@ -1,4 +1,4 @@
--- What comes to a cabinet, step by step: events that leave its tables and its drift, and calls of its download stage.
+-- What arrives at a cabinet, step by step: events that leave its tables and its drift, and calls of its download stage.
 use Rattle.std.proofs.Common.{◌≡◌, ℕ, List, [], ◌∷◌, map, Option, Some, None, refl}
 use Rattle.std.specs.Prelude.{IfSome}
 use Rattle.sig_tables.specs.Past.{Event, Tick, Input, Install, SetDrift, History}
@@ -35,7 +35,7 @@ abbrev pub call_events : Coming → Call → List Event
 call_events c (FinishCall id t flashing) = installs (staged (answered c.calls)) (answer_in c (FinishCall id t flashing))
 call_events c _ = []
 
--- what the cabinet has come to with one event or one call more
+-- what the cabinet has reached with one event or one call more
 abbrev pub happened : Coming → Event → Coming
 happened c e = record { history = with_one c.history e; calls = c.calls }
 
@@ -60,7 +60,7 @@ plain-order (ClockOrder tick) = tt
 plain-order (RequestOrder r) = tt
 plain-order (CancelOrder number) = tt
 
--- what the cabinet has come to after these events
+-- what the cabinet has reached after these events
 abbrev after_events : Coming → List Event → Coming
 after_events c events = record { history = with_events c.history events; calls = c.calls }
 

@@ -1,4 +1,4 @@
--- What the items of a cabinet history tell is what is to be told of its history.
+-- What the items of a cabinet history tell is what is to be reported of its history.
 use Rattle.std.proofs.Common.{◌≡◌, ℕ, ◌∙◌, List, [], ◌∷◌, ◌++◌, map, length, Option, Some, None, refl, sym, ap, inl, inr, Bool, true, false, append-nil, append_assoc}
 use Rattle.std.specs.Prelude.{if◌then◌else◌}
 use Rattle.sig_types.specs.declared.notes.StageAnswer.{StageAnswer}
@@ -26,7 +26,7 @@ use Rattle.cabinet_history.specs.CabinetAnswers.{verify_end, finish_end, wish_en
 use Rattle.cabinet_laws.specs.Openings.{IsOpening}
 use Rattle.cabinet_laws.specs.Telling.{load_told, frames_told, item_told, items_told, cabinet_history_told, acts_told}
 
--- what is to be told of a history
+-- what is to be reported of a history
 abbrev due : History → List CabinetTold
 due h = history_told has_line h
 
@@ -53,7 +53,7 @@ verify-tells id (WrongPart n) = refl
 verify-tells id NotVerified = refl
 verify-tells id (Refused b) = refl
 
--- an accepted finish puts tables in force and tells their version
+-- an accepted finish puts tables in force and gives their version
 finish-tells : (h : History) (next : Tables) (id : ℕ) (a : StageAnswer)
     → due (with_events h (installs next a)) ≡ due h ++ load_told (finish_end (past_at h).version id (Some a))
 finish-tells h next id Accepted = refl

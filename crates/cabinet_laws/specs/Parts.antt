@@ -1,4 +1,4 @@
--- The numbers of the parts of a download, by looking back over the answered calls, of which the newest stands first.
+-- The numbers of the parts of a download, by looking back over the answered calls, of which the newest is first.
 use Rattle.std.specs.Prelude.{ℕ, zero, suc, List, [], ◌∷◌, ◌++◌}
 use Rattle.sig_types.specs.declared.notes.StageAnswer.{StageAnswer}
 use Rattle.sig_types.specs.declared.notes.StageAnswer.TheVariants.{Staged}

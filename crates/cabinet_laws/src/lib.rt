@@ -1,6 +1,6 @@
-//! What holds of every history of a cabinet: whatever frames, inputs and ticks come to it, in any order, the laws of
-//! the street and of coordination apply to its history, its tables are those of whole downloads, and its lines show
-//! what happened. The functions only cite: each represents the laws of its contract.
+//! What holds for every history of a cabinet: for any messages, inputs and ticks in any order, the laws of the street
+//! and of coordination apply to its history, its tables are those of whole downloads, and its lines show what happened.
+//! The functions have no bodies: their contracts are the laws.
 #![tactic(auto)]
 
 ghost use Rattle.std.specs.Prelude.{◌≡◌, ℕ, List, ◌+◌, ◌++◌, drop, length, None, IfSome, true};

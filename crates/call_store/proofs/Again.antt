@@ -22,7 +22,7 @@ twice : (g y : Bool) → (not g && (not g && y)) ≡ (not g && y)
 twice true y = refl
 twice false y = refl
 
--- calls that stand once a frame has served them are served by it no more
+-- calls that remain once a frame has served them are served by it no more
 served-again : (served : Frame → ℕ → Bool) (locks : Tables → Field → ℕ → Bool) (heard : List Heard) (f g : Frame) (stood : List ℕ)
     → ((p : ℕ) → served f p ≡ served g p) → called (served f) locks [] (called (served g) locks heard stood) ≡ called (served g) locks heard stood
 served-again served locks heard f g stood e =
@@ -53,7 +53,7 @@ detectors-again past m v =
     ap (λ (xs : List ℕ). those (λ p. is_in xs p) all_phases) v
     ∙ those-same _ _ all_phases (λ p l. in-phases (λ x. detector_on (is_in (moment_seen past).detectors x) past.heard x) p (listed-phase p l))
 
--- and what is kept of them stands for one such moment more
+-- and what is kept of them represents one such moment more
 pub calls-on : (c : Calls) (past : Past) (m : Moment) → CallsStand c past → past.heard ≡ [] → m.frame.veh ≡ (frame_seen past).veh
     → m.frame.ped ≡ (frame_seen past).ped → m.vehicle ≡ vehicle_seen past → m.pedestrian ≡ pedestrian_seen past → m.detectors ≡ detectors_seen past
     → CallsStand c (with_moment past m)

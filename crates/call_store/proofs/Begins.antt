@@ -64,7 +64,7 @@ walk-is c mode p Green Green Dont x e = e refl
 walk-is c mode p Red Green signal x e = refl
 walk-is c mode p before after signal x e = refl
 
--- no Walk begins with Green in a mode in which none may, and in the others but for Coord it begins where it is asked for
+-- no Walk begins with Green in a mode in which none may, and in the others except Coord it begins where it is asked for
 pub no-green : (c : Crossing) (mode : Mode) (p : ℕ) → may_walk mode ≡ false → false ≡ walk_begins c mode p Red Green Dont
 no-green c Free p e = absurd (cc e)
 no-green c (Seek n) p e = absurd (cc e)

@@ -13,7 +13,7 @@ use Rattle.sig_tables.specs.Layout.{Has}
 use Rattle.sig_tables.specs.Seen.{vehicle_seen, pedestrian_seen, detectors_seen}
 use Rattle.call_store.specs.declared.Calls.{Calls}
 
--- the store stands for the past: the locked calls, the detectors that are on, and those turned on since the last frame
+-- the store represents the past: the locked calls, the detectors that are on, and those turned on since the last frame
 pub record CallsStand (c : Calls) (past : Past) : Type 0 where
   pub vehicle : Has c.vehicle (is_in (vehicle_seen past))
   pub pedestrian : Has c.pedestrian (is_in (pedestrian_seen past))

@@ -8,12 +8,12 @@ use Rattle.sig_tables.specs.Past.{Moment}
 use Rattle.sig_tables.specs.Looking.{signal_run, signal_latched}
 use Rattle.sig_tables.specs.Lesser.{Lesser, InFull, AtMost}
 
--- the lesser times that two numbers of ticks stand for; the times in full where there are none
+-- the smaller times that two numbers of ticks represent; the times in full where there are none
 abbrev pub lesser_of : Option (ℕ × ℕ) → Lesser
 lesser_of None = InFull
 lesser_of (Some (walk, clear)) = AtMost walk clear
 
--- the Walk or Flash that phase p shows lasts so many ticks more
+-- the Walk or Flash that phase p shows lasts that many ticks more
 abbrev pub SignalLasts : ℕ → ℕ → Tables → List Moment → Ped → Type 0
 SignalLasts k p now past Walk = signal_run p Walk past + k ≤ walk_time (signal_latched p Walk now past) p
 SignalLasts k p now past Flash = signal_run p Flash past + k ≤ pedestrian_clear_time (signal_latched p Flash now past) p

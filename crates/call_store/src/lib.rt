@@ -1,6 +1,6 @@
-//! The calls of a cabinet: what detectors and push buttons have asked for and no frame has served yet (FHWA Signal Timing
-//! Manual, detection and recall; NEMA TS 2, locking and non-lock memory); and where walk begins. All is kept as sets of
-//! phases, so that an input and a tick look at sixteen phases in one step.
+//! The calls of a cabinet: what detectors and push buttons have asked for and no frame has served yet (FHWA Signal
+//! Timing Manual, detection and recall; NEMA TS 2, locking and non-lock memory); and where walk begins. Calls are kept
+//! as sets of phases, so that an input and a tick examine sixteen phases in one step.
 #![tactic(auto)]
 
 ghost use Rattle.std.specs.Prelude.{◌≡◌, ◌<◌, ◌≤◌, ◌&&◌, ◌||◌, ◌==◌, not, nat_le, ℕ, Bool, true, Option};

@@ -1,4 +1,4 @@
--- Words that are numbers, and words one behind another.
+-- Words that are numbers, and words one after another.
 use Rattle.std.proofs.Common.{◌≡◌, ◌≤◌, ◌-◌, ◌↔◌, ◌∙◌, ℕ, List, [], ◌∷◌, Some, None, decimal, sym, ap, arith, length, drop, take, get_or, Bool, true, map, ◌==◌}
 use Rattle.std.proofs.lemmas.Fmt.{decimal_injective}
 use Rattle.std.proofs.lemmas.Bool.{eqb-true}
@@ -19,7 +19,7 @@ its_number word m small is n = (
 pub no_number : (word : List ℕ) → ((n : ℕ) → n ≤ 4294967295 → word ≡ decimal n → ⊥) → (n : ℕ) → (None ≡ Some n) ↔ ((word ≡ decimal n) × (n ≤ 4294967295))
 no_number word never n = (λ e. absurd (cc), λ both. absurd (never n both.1 both.0))
 
--- a list is its first item and those behind it
+-- a list is its first item and those after it
 pub first_and_rest : {A : Type 0} (xs : List A) (x : A) → 1 ≤ length xs → x ≡ get_or xs 0 x → xs ≡ x ∷ take (length xs - 1) (drop 1 xs)
 first_and_rest [] x some is = absurd (omega arith)
 first_and_rest (y ∷ ys) x some is = ap (λ z. z ∷ ys) (sym is) ∙ ap (λ zs. x ∷ zs) (sym (take_all (length (y ∷ ys) - 1) ys (omega arith)))

@@ -10,7 +10,7 @@ use Rattle.command_words.specs.Words.{IsRun, IsCheck, IsGenerate, IsSurvey, IsBa
 use Rattle.command_words.proofs.Decimals.{same_number}
 use Rattle.command_words.proofs.OneOverlap.{one_overlap}
 
--- the numbers behind options, read one after another, are those from which a scenario is generated
+-- the numbers after options, read one after another, are those from which a scenario is generated
 pub read_seeding : (texts first second third : List (List ℕ)) (read from : Seeding) → texts ≡ codes "--seed" ∷ decimal read.seed ∷ first
     → first ≡ codes "--cabinets" ∷ decimal read.cabinets ∷ second → second ≡ codes "--rounds" ∷ decimal read.rounds ∷ third
     → read.seed ≤ 4294967295 → read.cabinets ≤ 4294967295 → read.rounds ≤ 4294967295 → texts ≡ seeding_words from → CanSeed from → (read ≡ from) × (third ≡ [])
@@ -29,7 +29,7 @@ read_seeding texts first second third read from a b c s k m is can =
       ap (λ (ws : List (List ℕ)). drop 6 ws) same,
     )
 
--- numbers from which a scenario is generated are told by their words
+-- numbers from which a scenario is generated are determined by their words
 pub one_seeding : (texts : List (List ℕ)) (a b : Seeding) → texts ≡ seeding_words a → CanSeed a → texts ≡ seeding_words b → CanSeed b → a ≡ b
 one_seeding texts a b is can are may =
     let few : a.cabinets ≤ 64 = can.1.few in
@@ -44,7 +44,7 @@ its_seeding texts a is can b = (
   λ both. ap Some (one_seeding texts a b is can both.0 both.1),
 )
 
--- a number of workers is told by the words
+-- a number of workers is determined by the words
 pub one_run : (words : List (List ℕ)) (m n : ℕ) → IsRun words m → IsRun words n → m ≡ n
 one_run words m n (inl a) (inl b) = a.1 ∙ sym b.1
 one_run words m n (inl a) (inr b) = let less : 1 ≡ 3 = ap length (sym a.0 ∙ b.0) in absurd (omega (arith, less))

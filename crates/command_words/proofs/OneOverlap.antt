@@ -15,7 +15,7 @@ same_overlap a b cabinet parents trail yellow red =
     ∙ (ap (λ (n : ℕ). record { cabinet = b.cabinet; parents = b.parents; trail = b.trail; yellow = n; red = a.red }) yellow
     ∙ ap (λ (n : ℕ). record { cabinet = b.cabinet; parents = b.parents; trail = b.trail; yellow = b.yellow; red = n }) red)))
 
--- the words of an overlap, and others behind them
+-- the words of an overlap, and others after them
 abbrev pub words_before : Overlap → List ℕ → List (List ℕ) → List (List ℕ)
 words_before overlap hex rest =
     codes "--cabinet" ∷ decimal overlap.cabinet ∷ codes "--parents" ∷ hex ∷ codes "--trail" ∷ decimal overlap.trail ∷ codes "--yellow" ∷ decimal overlap.yellow ∷ codes "--red" ∷ decimal overlap.red ∷ rest
@@ -30,7 +30,7 @@ read_words texts first second third fourth fifth hex read a b c d e =
     (c ∙ ap (λ (ws : List (List ℕ)). codes "--trail" ∷ decimal read.trail ∷ ws)
     (d ∙ ap (λ (ws : List (List ℕ)). codes "--yellow" ∷ decimal read.yellow ∷ ws) e)))
 
--- an overlap that was read is the one that is given, and no words are behind it
+-- an overlap that was read is the one that is given, and no words are after it
 pub read_overlap : (texts rest : List (List ℕ)) (hex : List ℕ) (read from : Overlap) → texts ≡ words_before read hex rest → decode_of hex ≡ Ok read.parents.items
     → read.cabinet ≤ 64 → read.trail ≤ 255 → read.yellow ≤ 255 → read.red ≤ 255 → IsGiven texts from → (read ≡ from) × (rest ≡ [])
 read_overlap texts rest hex read from whole decoded k t y r given =
@@ -62,7 +62,7 @@ its_overlap texts a is b = (
 pub no_overlap : (texts : List (List ℕ)) → ((from : Overlap) → IsGiven texts from → ⊥) → (b : Overlap) → (None ≡ Some b) ↔ IsGiven texts b
 no_overlap texts never b = (λ e. absurd (cc), λ given. absurd (never b given))
 
--- none is given where no yellow stands behind the trail, and none where no red stands behind the yellow
+-- none is given where no yellow follows the trail, and none where no red follows the yellow
 pub no_yellow : (texts first second third : List (List ℕ)) (hex : List ℕ) (cabinet trail : ℕ)
     → texts ≡ codes "--cabinet" ∷ decimal cabinet ∷ first → first ≡ codes "--parents" ∷ hex ∷ second → second ≡ codes "--trail" ∷ decimal trail ∷ third
     → ((n : ℕ) (rest : List (List ℕ)) → 0 ≤ n → n ≤ 255 → third ≡ codes "--yellow" ∷ decimal n ∷ rest → ⊥) → (from : Overlap) → IsGiven texts from → ⊥

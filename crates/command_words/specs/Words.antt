@@ -7,7 +7,7 @@ use Rattle.command_words.specs.declared.command.Overlap.{Overlap}
 use Rattle.command_words.specs.declared.command.Command.{Command}
 use Rattle.command_words.specs.declared.command.Command.TheVariants.{Run, Check, Generate, Survey, Band, Respond, Overlaps, Live, Help, Version}
 
--- to run a scenario by so many workers, 0 to 8; with no number it is by none
+-- to run a scenario by that many workers, 0 to 8; with no number it is by none
 abbrev pub IsRun : List (List ℕ) → ℕ → Type 0
 IsRun words workers =
     ((words ≡ codes "run" ∷ []) × (workers ≡ 0)) ⊎ ((words ≡ codes "run" ∷ codes "--workers" ∷ decimal workers ∷ []) × (workers ≤ 8))
@@ -33,7 +33,7 @@ IsGenerate words from = (words ≡ codes "generate" ∷ seeding_words from) × C
 abbrev pub IsSurvey : List (List ℕ) → Seeding → Type 0
 IsSurvey words from = (words ≡ codes "survey" ∷ seeding_words from) × CanSeed from
 
--- to tell the widest bands of a street
+-- to report the widest bands of a street
 abbrev pub IsBand : List (List ℕ) → Type 0
 IsBand words = words ≡ codes "band" ∷ []
 
@@ -58,7 +58,7 @@ pub record IsOverlap (overlap : Overlap) : Type 0 where
 abbrev pub IsGiven : List (List ℕ) → Overlap → Type 0
 IsGiven words overlap = (hex : List ℕ) × (words ≡ overlap_words overlap hex) × (decode_of hex ≡ Ok overlap.parents.items) × IsOverlap overlap
 
--- to tell this overlap by a trace
+-- to report this overlap by a trace
 abbrev pub IsOverlaps : List (List ℕ) → Overlap → Type 0
 IsOverlaps words overlap = (hex : List ℕ) × (words ≡ codes "overlaps" ∷ overlap_words overlap hex) × (decode_of hex ≡ Ok overlap.parents.items) × IsOverlap overlap
 

@@ -27,19 +27,19 @@ pub struct Overlap {
 /// What the words can ask for.
 #[derive(PartialEq, Drop)]
 pub enum Command {
-    /// To run a scenario by so many workers; by none in the serial order.
+    /// To run a scenario by that many workers; by none in the serial order.
     Run(u32),
-    /// To tell whether a text is a trace.
+    /// To decide whether a text is a trace.
     Check,
     /// To write a scenario that is generated.
     Generate(Seeding),
     /// To count what a run of one comes to.
     Survey(Seeding),
-    /// To tell the widest bands of a street.
+    /// To report the widest bands of a street.
     Band,
     /// To write the scenario that a field file makes of its detectors and its traffic.
     Respond,
-    /// To tell an overlap by a trace.
+    /// To report an overlap by a trace.
     Overlaps(Overlap),
     /// To answer the requests of a session with cabinets, one by one.
     Live,

@@ -1,5 +1,5 @@
-//! The words of a command line, told apart: which command they are, and its numbers. Nothing is
-//! read or done; the words stand apart so that each command is one definition and one reader.
+//! The words of a command line: which command they are, and its numbers. Nothing is read or carried out here; each
+//! command has one definition and one reader.
 #![tactic(auto)]
 
 mod command;

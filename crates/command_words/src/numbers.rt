@@ -20,7 +20,7 @@ pub fn number_of(word: &str) -> Option<u32>
     }
 }
 
-/// The words behind the first, where that is this one.
+/// The words after the first, where that is this one.
 pub fn behind<'a>(words: &'a [String], name: &str) -> Option<&'a [String]>
     ensures some { IfSome result (λ rest. map string_bytes words.now ≡ name.now ∷ map string_bytes rest.now) }
     ensures none { result ≡ None → (rest : List (List ℕ)) → map string_bytes words.now ≡ name.now ∷ rest → ⊥ }
@@ -37,7 +37,7 @@ pub fn behind<'a>(words: &'a [String], name: &str) -> Option<&'a [String]>
     }
 }
 
-/// The number that the first word is, and the words behind it.
+/// The number that the first word is, and the words after it.
 fn first_number(words: &[String]) -> Option<(u32, &[String])>
     ensures some { IfSome result (λ found. (map string_bytes words.now ≡ decimal found.0 ∷ map string_bytes found.1.now) × (found.0 ≤ 4294967295)) }
     ensures none { result ≡ None → (n : ℕ) (rest : List (List ℕ)) → n ≤ 4294967295 → map string_bytes words.now ≡ decimal n ∷ rest → ⊥ }

@@ -31,7 +31,7 @@ fn octets_of(word: &str) -> Option<ArrayVec<u8, 16>>
     }
 }
 
-/// The octets that the first word gives, and the words behind it.
+/// The octets that the first word gives, and the words after it.
 fn first_octets(words: &[String]) -> Option<(ArrayVec<u8, 16>, &[String])>
     ensures some { IfSome result (λ found. (hex : List ℕ) × (map string_bytes words.now ≡ hex ∷ map string_bytes found.1.now)
         × (decode_of hex ≡ Ok found.0.items) × (1 ≤ length found.0.items) × (length found.0.items ≤ 16)) }
@@ -47,7 +47,7 @@ fn first_octets(words: &[String]) -> Option<(ArrayVec<u8, 16>, &[String])>
     }
 }
 
-/// The octets that the word behind an option gives, where the first word is this one, and the words behind it.
+/// The octets that the word after an option gives, where the first word is this one, and the words after it.
 fn option_octets<'a>(words: &'a [String], option: &str) -> Option<(ArrayVec<u8, 16>, &'a [String])>
     ensures some { IfSome result (λ found. (hex : List ℕ) × (map string_bytes words.now ≡ option.now ∷ hex ∷ map string_bytes found.1.now)
         × (decode_of hex ≡ Ok found.0.items) × (1 ≤ length found.0.items) × (length found.0.items ≤ 16)) }
@@ -60,7 +60,7 @@ fn option_octets<'a>(words: &'a [String], option: &str) -> Option<(ArrayVec<u8, 
     }
 }
 
-/// The number from least to most behind an option, where the first word is this one, and the words behind it.
+/// The number from least to most after an option, where the first word is this one, and the words after it.
 fn option_within<'a>(
     words: &'a [String],
     option: &str,
@@ -83,7 +83,7 @@ fn option_within<'a>(
     }
 }
 
-/// The overlap that the words behind the name of the command give.
+/// The overlap that the words after the name of the command give.
 fn given_overlap(words: &[String]) -> Option<Overlap>
     ensures { (overlap : OverlapRow) → (result ≡ Some overlap) ↔ IsGiven (map string_bytes words.now) overlap }
 {

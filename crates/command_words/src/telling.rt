@@ -1,4 +1,4 @@
-//! The commands, told apart.
+//! The commands, distinguished.
 
 ghost use Rattle.std.specs.Prelude.{◌≡◌, ◌≤◌, ◌*◌, ◌∷◌, ◌↔◌, ℕ, List, [], IsTrue, codes, decimal, map, string_bytes};
 ghost use Rattle.gen_arterial.specs.Written.{CanMake};
@@ -20,7 +20,7 @@ fn is_lone(words: &[String], name: &str) -> bool
     }
 }
 
-/// The number of workers that the words behind `run` give: 0 to 8.
+/// The number of workers that the words after `run` give: 0 to 8.
 fn given_workers(words: &[String]) -> Option<u32>
     ensures { (n : ℕ) → (result ≡ Some n) ↔ ((map string_bytes words.now ≡ codes "--workers" ∷ decimal n ∷ []) × (n ≤ 8)) }
 {
@@ -62,7 +62,7 @@ fn can_make(cabinets: u32, rounds: u32) -> bool
         && u64::from(cabinets) * u64::from(rounds) <= 100_000
 }
 
-/// What the words behind the name of a command say that a scenario is generated from.
+/// What the words after the name of a command say that a scenario is generated from.
 fn given_seeding(words: &[String]) -> Option<Seeding>
     ensures { (from : SeedingRow) → (result ≡ Some from) ↔ ((map string_bytes words.now ≡ seeding_words from) × CanSeed from) }
 {

@@ -179,7 +179,7 @@ ready-on b c s ready = record {
   clear = record { inputs = ready.clear.inputs; green = ready.clear.green; off = ready.clear.off };
 }
 
--- and what is kept stands after all of them
+-- and what is kept follows all of them
 pub keeps-after : (n : ℕ) (mode : Mode) (c : Registers) (s : TickInputs) (past : Past) → 0 < n → RegistersStand c past → Lasts mode n past
     → Looks (bound mode) s past → IsSteadyAt c s → RegistersStand (passed (is_coord mode) n c) (after n past)
 keeps-after zero mode c s past some k l looks ready = absurd (omega (arith, some))

@@ -28,7 +28,7 @@ pub record RegistersStand (c : Registers) (past : Past) : Type 0 where
   pub start : c.start_run ≡ start_run past.moments
   pub counts : CountStandsFor c.count past
 
--- no register moves at ticks that see this, beside those that count
+-- no register except the counts changes at ticks that see this
 pub record IsReady (c : Registers) (x : TickContext) (s : TickInputs) : Type 0 where
   pub counter : is_coord x.frame.mode ≡ true → x.frame.counter ≡ counter_of c.count
   pub steady : IsSteady c.clocks s.active s.opposed

@@ -1,5 +1,5 @@
-//! One cabinet's controller: the engine over registers, which are stepped from frame to frame and give what looking back over all
-//! past frames would give.
+//! One cabinet's controller: the engine over registers. The registers are updated at each frame and give the same
+//! answers as looking back over all past frames.
 #![tactic(auto)]
 
 ghost use Rattle.std.specs.Prelude.{◌≡◌, ◌+◌, ◌==◌, if◌then◌else◌, ◌∷◌, ◌<◌, get_or, ℕ, List, true};
@@ -27,7 +27,7 @@ pub struct Registers {
     latest: u8,
     /// For how many frames in a row the cabinet has been in Start.
     start_run: u32,
-    /// The counter of the cycle of the pattern that was sought, or coordinated in, last.
+    /// The counter of the cycle of the pattern that was sought or coordinated last.
     count: Count,
 }
 
@@ -38,7 +38,7 @@ fn shows_start(frame: &Frame) -> bool
     frame.mode == Mode::Start
 }
 
-/// The phase that was last on in a ring since Start, of which this one is on now (0: none).
+/// The phase that was last on in a ring since Start, if this phase is on now (0: none).
 fn last_after(before: u8, on: u8, in_start: bool) -> u8
     ensures { result ≡ (if in_start then 0 else if on == 0 then before else on) }
 {
@@ -67,7 +67,7 @@ fn latest_after(before: u8, on: [u8; 2], in_start: bool) -> u8
     }
 }
 
-/// For how many frames in a row a cabinet has been in Start, with one frame more, which is in Start or is not.
+/// For how many frames in a row a cabinet has been in Start, after one more frame, which is in Start or not.
 fn start_run_after(before: u32, in_start: bool) -> u32
     ensures { before < 4294967295 → result ≡ (if in_start then before + 1 else 0) }
 {
@@ -83,7 +83,7 @@ impl Registers {
     ghost use Rattle.sig_tables.specs.declared.tables.Tables.{Tables};
     ghost use Rattle.controller.specs.Registers.{frames};
 
-    /// Of the moment before any tick.
+    /// The registers at the moment before any tick.
     pub fn new() -> Registers
         ensures stands { (t : Tables) (command clock : ℕ) → RegistersStand result (past_at (opening t command clock)) }
         ensures frames { frames result ≡ 0 }
@@ -117,7 +117,7 @@ impl Registers {
         count
     }
 
-    /// The count of the cycle after this frame: a tick coordinated in a pattern counts on, and any other frame may be a
+    /// The count of the cycle after this frame: a coordinated tick continues the count, and any other frame may be a
     /// pickup.
     fn count_after(&self, context: &TickContext, frame: &Frame, tick_state: &TickState) -> Count
         ensures counts { (past : Past) → RegistersStand self.now past → ContextRuns context.now tick_state.now past → frame.now ≡ (next_moment past).frame

@@ -1,4 +1,4 @@
--- What is kept stands for one counter more, where it went on by one.
+-- What is kept represents one counter more, where it advanced by one.
 use Rattle.std.proofs.Common.{◌≡◌, ◌≢◌, ◌+◌, ◌==◌, ◌&&◌, not, ℕ, Bool, false, List, ◌∷◌, refl, sym, ◌∙◌, ap, arith}
 use Rattle.std.proofs.lemmas.Bool.{ne_eqb}
 use Rattle.coord_count.specs.declared.Count.{Count}

@@ -7,12 +7,12 @@ use Rattle.coord_count.specs.declared.Count.{Count}
 abbrev pub counter_of : Count → ℕ
 counter_of count = count.counter
 
--- the greatest number of stands or skips that is kept: no limit is greater, so that more would tell nothing
+-- the greatest number of waits or skips that is kept: no limit is greater, so that more would say nothing
 abbrev pub greatest_kept : ℕ
 greatest_kept = 4294967295
 
--- the count stands for these counters, the newest first: those of the frames in step with the pattern since its pickup. Of a
--- cabinet that is not in step it says nothing
+-- the count represents these counters, the newest first: those of the frames coordinated in the pattern since its
+-- pickup. Of a cabinet that is not coordinated it says nothing
 pub record CountStands (count : Count) (counters : List ℕ) : Type 0 where
   pub counter : count.counter ≡ last_counter counters
   pub stands : count.stands ≡ min (stands counters) greatest_kept

@@ -2,6 +2,6 @@
 use Rattle.std.specs.Prelude.{ℕ, true, ◌+◌}
 use Rattle.coord_count.specs.declared.Count.{Count}
 
--- the count after N ticks more, at each of which the counter went on by one
+-- the count after N ticks more, at each of which the counter advanced by one
 abbrev pub passed : ℕ → Count → Count
 passed k c = record c { counter = c.counter + k; changed = true }

@@ -1,6 +1,6 @@
-//! The counter of a cycle: how far a coordinated cabinet has come since local zero, and how it is brought onto the offset
-//! (FHWA Signal Timing Manual, offset transition). What looking back over the counters since the pickup would count, how
-//! often the counter stood and skipped in this cycle, is kept as numbers.
+//! The counter of a cycle: how far a coordinated cabinet has come since local zero, and how it is brought onto the
+//! offset (FHWA Signal Timing Manual, offset transition). Two numbers are kept that looking back over the counters
+//! since the pickup would give: how often the counter waited and how often it skipped in this cycle.
 #![tactic(auto)]
 
 ghost use Rattle.std.specs.Prelude.{◌≡◌, ◌<◌, ◌≤◌, ◌-◌, ◌+◌, ℕ, List, [], ◌∷◌};
@@ -13,7 +13,7 @@ mod passing;
 use limits::{ADD_ONLY, DWELL, SHORTWAY};
 pub use limits::{Limits, needed};
 
-/// The counter of the last frame, in ticks since local zero; how often it stood still and how often it skipped a tick since
+/// The counter of the last frame, in ticks since local zero; how often it waited and how often it skipped a tick since
 /// it last changed to 0, or since the pickup; and whether the last step changed it.
 #[derive(Clone, Copy)]
 pub struct Count {
@@ -118,7 +118,7 @@ impl Count {
         counter
     }
 
-    /// Dwelling: the counter stands still at local zero, up to the limit.
+    /// Dwelling: the counter waits at local zero, up to the limit.
     fn dwelling(&self, plan: &Plan, limits: Limits) -> u32
         requires counter { counter_of self.now < plan.now.cycle }
         ensures next { (counters : List ℕ) → CountStands self.now counters
@@ -132,7 +132,7 @@ impl Count {
         }
     }
 
-    /// Adding: the counter stands still at every second tick, up to the limit.
+    /// Adding: the counter waits at every second tick, up to the limit.
     fn adding(&self, plan: &Plan, limits: Limits) -> u32
         requires counter { counter_of self.now < plan.now.cycle }
         ensures next { (counters : List ℕ) → CountStands self.now counters
@@ -163,7 +163,7 @@ impl Count {
 
 ghost use Rattle.sig_tables.specs.Counting.{ahead, tick_later};
 
-/// How far the target would be ahead, round the cycle, if the counter went on as time does.
+/// How far the target would be ahead, round the cycle, if the counter continued as time does.
 fn ahead(cycle: u32, target: u32, counter: u32) -> u32
     requires counter { counter < cycle }
     requires target { target < cycle }

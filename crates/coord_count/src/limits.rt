@@ -43,7 +43,8 @@ impl Limits {
         }
     }
 
-    /// Whether adding takes no more cycles than subtracting, for an error of so many ticks that is at most the plan's cycle.
+    /// Whether adding takes no more cycles than subtracting, for an error of that many ticks that is at most the plan's
+    /// cycle.
     pub(crate) fn adds_sooner(self, plan: &Plan, error: u32) -> bool
         requires add { 0 < self.add }
         requires subtract { 0 < self.subtract }
@@ -83,7 +84,7 @@ fn short_of(cycle: u32, moment: u32) -> u32
     if moment == 0 { 0 } else { cycle - moment }
 }
 
-/// How many steps of at most `most` ticks make up an error of so many ticks.
+/// How many steps of at most `most` ticks make up an error of that many ticks.
 fn steps_for(error: u32, most: u32) -> u32
     requires { 0 < most }
     ensures { result ≡ steps_for error most }

@@ -10,7 +10,7 @@ use Rattle.sig_tables.specs.declared.plan.Plan.{Plan}
 use Rattle.sig_tables.specs.Slots.{split_time, force_point}
 use Rattle.sig_tables.specs.Plan.{plan_of}
 
--- what was made for each phase stands at the phase's place
+-- what was made for each phase is at the phase's place
 made-at : (f : ℕ → ℕ) (p : ℕ) → is_phase p ≡ true → get_or (map f all_phases) (p - 1) 0 ≡ f p
 made-at f p is =
     let k : (0 < p) × (p ≤ 16) = phase-in p is in
@@ -42,7 +42,7 @@ pub regrouped : (a b c : Bool) → ((a && not b) && c) ≡ (a && (not b && c))
 regrouped true b c = refl
 regrouped false b c = refl
 
--- with the ticks for which it is held a force point lies past this counter where these alone do
+-- with the ticks for which it is held, a force point lies past this counter if these ticks by themselves do
 pub not-yet : (a : Bool) (force held counter : ℕ) → counter < held → false ≡ (a && nat_le (force + held) counter)
 not-yet a force held counter h = rw (lt-leb (force + held) counter (omega arith)) (none a)
   where
@@ -50,7 +50,7 @@ not-yet a force held counter h = rw (lt-leb (force + held) counter (omega arith)
     none true = refl
     none false = refl
 
--- and else it has come where the force point had so many ticks before
+-- and else it has come where the force point had that many ticks before
 pub held-on : (a : Bool) (force held counter : ℕ) → held ≤ counter
     → (a && nat_le force (counter - held)) ≡ (a && nat_le (force + held) counter)
 held-on a force held counter h = elim (leb_tells force (counter - held)) [

@@ -12,7 +12,7 @@ use Rattle.sig_tables.specs.Past.{Moment}
 use Rattle.sig_tables.specs.Looking.{run, latched, runs_on, signal_run, signal_latched, signal_runs_on}
 use Rattle.tick_laws.proofs.Runs.{same-self}
 
--- a colour that goes on keeps its tables; one that comes has those in force
+-- a colour that continues keeps its tables; one that comes has those in force
 pub latched-goes : (p : ℕ) (c : Colour) (t : Tables) (m : Moment) (past : List Moment) → colour_of m.frame p ≡ c → m.tables ≡ t
     → latched p c t (m ∷ past) ≡ latched p c t past
 latched-goes p c t m past e same = rw (e, same-self c, same) refl

@@ -1,4 +1,4 @@
--- In step, a local zero comes within the longest cycle after a pickup or a disturbance.
+-- While coordinated, a local zero comes within the longest cycle after a pickup or a disturbance.
 use Rattle.std.proofs.Common.{◌≡◌, ◌⊎◌, inl, inr, ℕ, ◌+◌, ◌≤◌, ◌<◌, Bool, true, false, nat_lt, if◌then◌else◌, List, [], ◌∷◌, refl, sym, ◌∙◌, ap, subst, arith}
 use Rattle.std.proofs.lemmas.Bool.{lt-ltb}
 use Rattle.sig_types.specs.declared.frame.Mode.TheVariants.{Coord}
@@ -14,7 +14,7 @@ use Rattle.plan_facts.specs.Meets.{is_zero, has_zero, zero_within}
 use Rattle.coordination_laws.specs.Cycles.{counters, CountsOn, PicksUp, InCycle}
 use Rattle.coordination_laws.proofs.Zeros.{quiet-none, quiet-more, has-older, has-now, counters-more, counters-end, zero-changes}
 
--- the counters at a tick in step, and at a pickup
+-- the counters at a coordinated tick, and at a pickup
 pub counters-on : (t : Tables) (n : ℕ) (m l : Moment) (past : List Moment) → CountsOn t n m l past
     → counters n (m ∷ l ∷ past) ≡ next_counter (correction_of t n) (counters n (l ∷ past)) m.frame.target ∷ counters n (l ∷ past)
 counters-on t n m l past on =
@@ -32,7 +32,7 @@ counters-pickup n m l past up =
     ∙ ap (λ (cs : List ℕ). m.frame.counter ∷ cs) (counters-end n m.frame.version l past up.apart)
     ∙ ap (λ (c : ℕ). c ∷ []) up.counter
 
--- what a disturbance leaves: within the longest cycle a local zero is due
+-- what a disturbance leaves: within the longest cycle a local zero is expected
 whole : (k : Correction) (cs : List ℕ) → to_zero k cs ≤ k.cycle + most_a_cycle k
 whole k cs = omega arith
 
@@ -57,7 +57,7 @@ cycle-pickup d t n m l past room up why = record { mode = up.mode; limits = limi
     choose false e (inl zero) = inl (has-now d m (l ∷ past) e zero)
     choose false e (inr dist) = absurd (Rattle.std.proofs.lemmas.Bool.false≢true (sym e ∙ dist))
 
--- at a tick in step
+-- at a coordinated tick
 pub cycle-step : (d : Drift) (t : Tables) (n : ℕ) (m l : Moment) (past : List Moment) → HasRoom (correction_of t n) → CountsOn t n m l past
     → InCycle d t n (l ∷ past) → InCycle d t n (m ∷ l ∷ past)
 cycle-step d t n m l past room on before = record { mode = on.mode; limits = limits; due = choose (is_disturbed d (m ∷ l ∷ past)) refl before.due }

@@ -93,7 +93,7 @@ keeps-time d number h = by (d.gain == 0) (d.lose == 0) refl refl h
     by true false e f h = absurd (false≢true (sym h))
     by false b e f h = absurd (false≢true (sym h))
 
--- ---- where it keeps time, counters and targets go on as time does
+-- ---- where it keeps time, counters and targets continue as time does
 pub drifted-even : (n : ℕ) (k : Correction) (steps : ℕ → Step) (t : ℕ) (past : List ℕ) → ((i : ℕ) → steps i ≡ Even) → drifted k n steps t past ≡ counted k n t past
 drifted-even zero k steps t past even = refl
 drifted-even (suc n) k steps t past even =

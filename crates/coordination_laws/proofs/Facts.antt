@@ -1,4 +1,4 @@
--- What each tick of a lawful history tells: it seeks the pattern in command, is in step with it, or does neither.
+-- What each tick of a lawful history says: it seeks the pattern in command, is coordinated in it, or does neither.
 use Rattle.std.proofs.Common.{◌≡◌, ◌⊎◌, inl, inr, ℕ, ◌+◌, ◌*◌, ◌%◌, ◌<◌, ◌≤◌, ◌==◌, ◌&&◌, nat_le, Bool, true, false}
 use Rattle.std.proofs.Common.{if◌then◌else◌, List, [], ◌∷◌, refl, sym, ◌∙◌, ap, subst, arith}
 use Rattle.std.proofs.Math.Nat.{mod-lt}
@@ -193,7 +193,7 @@ seek-facts d past n l earlier b mode same defined apart = record {
     reached : (next_moment past).frame.mode ≡ mode_reached (Seek n) past.tables (next_moment past).frame.veh
     reached = ap (λ (m : Mode). mode_reached m past.tables (colours_of past (moves_seen past))) mode
 
--- ---- a tick in step with the pattern
+-- ---- a tick coordinated in the pattern
 
 step-facts : (d : Drift) (past : Past) (n : ℕ) (l : Moment) (earlier : List Moment) → Before d past l earlier → mode_seen past ≡ Coord n → n ≡ command_now past
     → is_defined past.tables n ≡ true → is_in_step (last_frame past.moments) past.version n ≡ true → StepFacts d n (next_moment past) l earlier

@@ -1,4 +1,4 @@
--- Each tick of a lawful history tells what coordination rests on.
+-- Each tick of a lawful history says what coordination rests on.
 use Rattle.std.proofs.Common.{◌≡◌, inl, ℕ, ◌+◌, ◌*◌, ◌≤◌, ◌<◌, max, nat_le, Bool, true, false, ◌==◌, ◌&&◌, if◌then◌else◌, List, [], ◌∷◌, refl, ap, subst, arith}
 use Rattle.std.proofs.lemmas.Bool.{and_parts, leb-true}
 use Rattle.sig_tables.specs.declared.tables.Tables.{Tables}
@@ -75,8 +75,8 @@ each-allowed d opening [] lawful range = tt
 each-allowed d opening (e ∷ events) lawful range =
     ((lawful.0, λ some. (range some).0), each-allowed d opening events lawful.1 (λ some. (range some).1))
 
--- what is carried from event to event: the last frame names the version in force only where its tables are in force, and each moment
--- tells what it must
+-- what is carried from event to event: the last frame names the version in force only where its tables are in force,
+-- and each moment says what it must
 record Carried (d : Drift) (t : Tables) (version : ℕ) (moments : List Moment) : Type 0 where
   number : (last_frame moments).version ≤ version
   tables : (last_frame moments).version ≡ version → (last_moment t moments).tables ≡ t

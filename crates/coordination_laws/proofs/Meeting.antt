@@ -1,4 +1,4 @@
--- Each tick carries along what stands of a search or in step, and meets what is owed.
+-- Each tick carries along what a search or coordination has left, and meets what is owed.
 use Rattle.std.proofs.Common.{◌≡◌, ◌⊎◌, inl, inr, ℕ, suc, ◌+◌, ◌≤◌, ◌<◌, Bool, true, false, if◌then◌else◌, List, [], ◌∷◌, refl, sym, ◌∙◌, ap, subst, arith}
 use Rattle.std.proofs.lemmas.Bool.{false≢true}
 use Rattle.sig_types.specs.declared.frame.Mode.{Mode}
@@ -68,7 +68,7 @@ before-seek d n m l past f c quiet = elim f.tick [
     through : (a b c d : ℕ) → a < b → b ≤ c → c ≤ d → a < d
     through a b c d h k l = omega arith
 
--- where it is not picked up, the search goes on
+-- where it is not picked up, the search continues
 seek-on : (d : Drift) (n : ℕ) (m l : Moment) (past : List Moment) → SeekFacts d n m l past → Carried d l past → are_coordinated_green m.tables n m.frame.veh ≡ false
     → Seeking d m.tables n (m ∷ l ∷ past)
 seek-on d n m l past f c waits = decide (is_disturbed d (m ∷ l ∷ past)) refl f.tick
@@ -139,7 +139,7 @@ seek-on d n m l past f c waits = decide (is_disturbed d (m ∷ l ∷ past)) refl
         short : (q k p r : ℕ) → q ≤ k + 1 → k + 2 ≤ p → p ≤ r → q < r
         short q k p r h i j = omega arith
 
--- where it is, the ticks in step begin
+-- where it is, the coordinated ticks begin
 seek-picks : (d : Drift) (n : ℕ) (m l : Moment) (past : List Moment) → SeekFacts d n m l past → Carried d l past → are_coordinated_green m.tables n m.frame.veh ≡ true
     → InStep d m.tables n (m ∷ l ∷ past)
 seek-picks d n m l past f c green = record {
@@ -213,7 +213,7 @@ seek-meets d m l past f c = pick (are_coordinated_green m.tables m.command m.fra
         through : (a b c : ℕ) → a < b → b ≤ c → a < c
         through a b c h k = omega arith
 
--- ---- a tick in step
+-- ---- a coordinated tick
 step-on : (d : Drift) (n : ℕ) (m l : Moment) (past : List Moment) → StepFacts d n m l past → Carried d l past → InStep d m.tables n (m ∷ l ∷ past)
 step-on d n m l past f c = record {
   room = f.room;
@@ -318,7 +318,7 @@ no-sooner d n (m ∷ past) none tells = λ mode zero some met.
     let now : InStep d m.tables n (m ∷ past) = (carries d m past tells).in_step n mode in
     path-no-sooner d m.tables n (zero_bound (m ∷ past) m.tables n) m past none now.room (now.path zero) some met
 
--- the moment before any tick neither seeks a pattern nor is in step
+-- the moment before any tick neither seeks a pattern nor is coordinated
 abbrev is_seek : Mode → Bool
 is_seek (Seek n) = true
 is_seek mode = false

@@ -22,7 +22,7 @@ use Rattle.coordination_laws.proofs.Zeros.{quiet-more, first-older, first-now, h
 use Rattle.coordination_laws.proofs.Cycles.{counters-on, counters-at, counters-pickup}
 use Rattle.coordination_laws.proofs.Drifting.{comes-near, keeps-time, drifted-even, target-even}
 
--- a cycle begins at a pickup, and at a local zero in step
+-- a cycle begins at a pickup, and at a coordinated local zero
 pub pickup-begins : (n : ℕ) (m l : Moment) (past : List Moment) → PicksUp n m l → begins_cycle (counters n (m ∷ l ∷ past)) ≡ true
 pickup-begins n m l past up = ap begins_cycle (counters-pickup n m l past up)
 
@@ -114,7 +114,7 @@ path-begins d t n most m l past mode quiet none zero soon begins below room time
         ≡ target_drifted (cycle_time t n) i (steps_after d m.number) m.frame.target)
         none x.equal
 
--- a quiet tick goes on with it
+-- a quiet tick continues with it
 pub path-step : (d : Drift) (t : Tables) (n most : ℕ) (m l : Moment) (past : List Moment) → is_disturbed d (m ∷ l ∷ past) ≡ false
     → CountsOn t n m l past → m.number ≡ l.number + 1 → m.frame.target ≡ moved (cycle_time t n) (step_at d m.number) l.frame.target
     → cycle_time m.tables m.command ≡ cycle_time t n → OnPath d t n most (l ∷ past) → OnPath d t n most (m ∷ l ∷ past)

@@ -31,7 +31,7 @@ quiet-zero d (m ∷ past) e = pick (is_disturbed d (m ∷ past)) refl e
     pick true h z = disturbed-none d m past h
     pick false h z = absurd (omega arith)
 
--- a moment that is not in step is no local zero
+-- a moment that is not coordinated is not a local zero
 pub elsewhere-zero : (mode : Mode) (c : ℕ) (f : Frame) → is_coord mode ≡ false → is_local_zero mode c f ≡ false
 elsewhere-zero (Coord n) c f e = absurd (false≢true (sym e))
 elsewhere-zero mode c f e = refl

@@ -1,4 +1,4 @@
--- The search goes on, and ends in time.
+-- The search continues, and ends in time.
 use Rattle.std.proofs.Common.{◌≡◌, inl, inr, ℕ, ◌+◌, ◌≤◌, ◌&&◌, Bool, true, if◌then◌else◌, List, ◌∷◌, ◌∙◌, ap, subst, arith}
 use Rattle.std.proofs.lemmas.Bool.{and_from}
 use Rattle.sig_types.specs.declared.frame.Colour.{Colour}

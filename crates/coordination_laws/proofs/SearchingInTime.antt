@@ -1,4 +1,4 @@
--- A search that goes on: what stands after N ticks, and that it ends within its bound.
+-- A search that continues: what follows N ticks, and that it ends within its bound.
 use Rattle.std.proofs.Common.{◌≡◌, ◌⊎◌, inl, inr, ℕ, zero, suc, ◌+◌, ◌*◌, ◌≤◌, ◌<◌, Bool, true, false}
 use Rattle.std.proofs.Common.{not, nat_lt, ◌==◌, ◌||◌, if◌then◌else◌, List, [], ◌∷◌, refl, sym, ◌∙◌, ap, subst, arith}
 use Rattle.std.proofs.lemmas.Bool.{false≢true, and_parts, cases_order, lt-ltb}
@@ -38,7 +38,7 @@ goal-enabled : (t : Tables) (n : ℕ) → ((q : ℕ) → is_in (coordinated_phas
     → (q : ℕ) → is_in (goal_in t (Seek n)) q ≡ true → is_enabled t q ≡ true
 goal-enabled t n enabled q h = enabled q (in-those (is_in (coordinated_phases t n)) all_phases q h).0
 
--- what stands after N ticks of a search
+-- what follows N ticks of a search
 pub searching : (t : Tables) (n : ℕ) (start : List Moment) → IsVersion t start → HasYellow t → AnyMoment (greatest_at start) t start
     → ((q : ℕ) → is_in (coordinated_phases t n) q ≡ true → is_enabled t q ≡ true) → (k : ℕ) (now : List Moment) → Searches t n start k now
     → InSearch (greatest_at start) t (goal_in t (Seek n)) k now
@@ -118,7 +118,7 @@ search-grows t n start (suc k) (m ∷ l ∷ past) h =
     let b : pickup_bound (l ∷ past) ≤ pickup_bound (m ∷ l ∷ past) = pickup-grows m (l ∷ past) in
     omega arith
 
--- while it goes on, a local zero is not overdue, where the last disturbance came at most one tick before it began
+-- while it continues, a local zero is not overdue, where the last disturbance came at most one tick before it began
 pub search-in-time : (d : Drift) (t : Tables) (n : ℕ) (start : List Moment) (most : ℕ) → IsVersion t start → HasYellow t
     → AnyMoment (greatest_at start) t start
     → ((q : ℕ) → is_in (coordinated_phases t n) q ≡ true → is_enabled t q ≡ true) → (k : ℕ) (now : List Moment) → Searches t n start k now

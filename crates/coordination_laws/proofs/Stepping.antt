@@ -20,7 +20,7 @@ use Rattle.tick_laws.proofs.Ticking.{picked-up, tick-keeps}
 use Rattle.plan_facts.specs.Meets.{is_zero, is_green, green_at_zero}
 use Rattle.coordination_laws.specs.Lasting.{StepTick, RunsInStep, EachZeroHolds}
 
--- one tick in step
+-- one coordinated tick
 pub step-keeps : (t : Tables) (n : ℕ) (m l : Moment) (past : List Moment) → HoldsPair t n → PlanServes t n → TimesServe t n → StepTick t n m l past
     → InTime t n l.frame.counter (l ∷ past) → InTime t n m.frame.counter (m ∷ l ∷ past) × (m.frame.counter ≡ 0 → ZeroHolds t n m)
 step-keeps t n m l past pair plan times tick before = (after, zeros)
@@ -45,7 +45,7 @@ step-keeps t n m l past pair plan times tick before = (after, zeros)
     zeros : m.frame.counter ≡ 0 → ZeroHolds t n m
     zeros e = subst (λ (u : Tables). ZeroHolds u n m) tick.tables (kept.zero (sym tick.counter ∙ e))
 
--- ticks in step after a moment that is in time keep every phase in time, and each local zero holds
+-- coordinated ticks after a moment that is in time keep every phase in time, and each local zero holds
 pub runs-in-time : (t : Tables) (n : ℕ) (l : Moment) (before : List Moment) → HoldsPair t n → PlanServes t n → TimesServe t n
     → InTime t n l.frame.counter (l ∷ before) → (k : ℕ) (now : List Moment) → RunsInStep t n (l ∷ before) k now
     → InTime t n (last_frame now).counter now × EachZeroHolds t n k now

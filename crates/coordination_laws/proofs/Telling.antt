@@ -1,4 +1,4 @@
--- What a quiet tick tells: and that the target goes on as time does.
+-- What a quiet tick says: and that the target continues as time does.
 use Rattle.std.proofs.Common.{◌≡◌, ◌⊎◌, inl, inr, ℕ, ◌+◌, ◌-◌, ◌*◌, ◌/◌, ◌%◌, ◌<◌, Bool, true, false}
 use Rattle.std.proofs.Common.{not, nat_le, ◌==◌, ◌&&◌, ◌||◌, if◌then◌else◌, List, ◌∷◌, refl, sym, ◌∙◌, ap, arith}
 use Rattle.std.proofs.Math.Nat.{mod-eq_of_lt, mod-add-mod, mod-mod, mod-add-div', add-mul-mod_self_right}
@@ -46,7 +46,8 @@ goes-on d m l past e =
     midnight true false c x y z h = absurd (false≢true y)
     midnight false b c x y z h = inl (leb-false day (l.clock + rise d m.number) x)
 
--- so much later on a day of any length, where midnight does not move it, the target is so much further round the cycle
+-- that much later on a day of any length, where midnight does not move it, the target is that much further round the
+-- cycle
 target-any : (t : Tables) (n length more time : ℕ) → (time + more < length) ⊎ (length % cycle_time t n ≡ 0)
     → target_at t n ((time + more) % length) ≡ (target_at t n time + more) % cycle_time t n
 target-any t n length more time how =

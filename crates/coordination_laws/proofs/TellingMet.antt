@@ -1,4 +1,4 @@
--- What each moment tells: the mode of its tick is what the command asks for, and its target what the clock asks for.
+-- What each moment says: the mode of its tick is what the command asks for, and its target what the clock asks for.
 use Rattle.std.proofs.Common.{◌≡◌, inl, inr, ℕ, ◌==◌, Bool, true, false, if◌then◌else◌, List, Option, Some, None, refl, arith}
 use Rattle.std.proofs.Math.Nat.{mod-lt}
 use Rattle.sig_types.specs.declared.frame.Colour.{Colour}

@@ -1,4 +1,4 @@
--- Local zeros since the last disturbance, and the counters of frames in step.
+-- Local zeros since the last disturbance, and the counters of coordinated frames.
 use Rattle.std.proofs.Common.{◌≡◌, ℕ, ◌+◌, Bool, true, false, not, ◌==◌, ◌&&◌, ◌||◌, if◌then◌else◌, List, [], ◌∷◌, refl, sym, ◌∙◌, ap}
 use Rattle.std.proofs.lemmas.Bool.{false≢true, and_from}
 use Rattle.sig_types.specs.declared.frame.Mode.{Mode}
@@ -52,7 +52,7 @@ has-now d m past e zero = pick (has_zero d past) refl
     pick true h = has-older d m past e h
     pick false h = ap is_some (first-now d m past e h zero)
 
--- the counters of frames in step
+-- the counters of coordinated frames
 pub counters-more : (n v : ℕ) (m : Moment) (past : List Moment) → m.frame.mode ≡ Coord n → m.frame.version ≡ v
     → counters_since n v (m ∷ past) ≡ m.frame.counter ∷ counters_since n v past
 counters-more n v m past mode version =
@@ -64,7 +64,7 @@ pub counters-end : (n v : ℕ) (l : Moment) (past : List Moment) → (l.frame.ve
     → counters_since n v (l ∷ past) ≡ []
 counters-end n v l past e = ap (λ (b : Bool). if b then l.frame.counter ∷ counters_since n v past else []) e
 
--- a local zero after a frame in step is a change of the counter to 0
+-- a local zero after a coordinated frame is a change of the counter to 0
 pub zero-changes : (n : ℕ) (m l : Moment) (past : List Moment) → m.frame.mode ≡ Coord n → l.frame.mode ≡ Coord n
     → is_zero (m ∷ l ∷ past) ≡ changes_to_zero m.frame.counter l.frame.counter
 zero-changes n m l past mode before =

@@ -16,11 +16,11 @@ use Rattle.plan_facts.specs.Disturbances.{Drift, IsSlow, drift_gap, drifts, quie
 use Rattle.plan_facts.specs.Bounds.{longest_cycle, cycles_for_one}
 use Rattle.plan_facts.specs.Meets.{first_zero, has_zero, holds_since, can_follow}
 
--- the counters of the last frames in a row in step with pattern n, in the version of the last
+-- the counters of the last frames in a row coordinated in pattern n, in the version of the last
 abbrev pub counters : ℕ → List Moment → List ℕ
 counters n past = counters_since n (last_frame past).version past
 
--- moment m goes on in step with pattern n after the moments l ∷ past, and its counter is the next one
+-- moment m continues coordinated in pattern n after the moments l ∷ past, and its counter is the next one
 pub record CountsOn (t : Tables) (n : ℕ) (m l : Moment) (past : List Moment) : Type 0 where
   pub mode : m.frame.mode ≡ Coord n
   pub before : l.frame.mode ≡ Coord n
@@ -33,7 +33,8 @@ pub record PicksUp (n : ℕ) (m l : Moment) : Type 0 where
   pub apart : (l.frame.version == m.frame.version && same_mode l.frame.mode (Coord n)) ≡ false
   pub counter : m.frame.counter ≡ 0
 
--- in step with pattern n: the limits of a cycle are kept, and a local zero has come since the last disturbance or is still due
+-- coordinated in pattern n: the limits of a cycle are kept, and a local zero has come since the last disturbance or is
+-- still expected
 pub record InCycle (d : Drift) (t : Tables) (n : ℕ) (past : List Moment) : Type 0 where
   pub mode : (last_frame past).mode ≡ Coord n
   pub limits : KeepsLimits (correction_of t n) (counters n past)
@@ -66,8 +67,8 @@ abbrev pub are_near : Drift → ℕ → ℕ → ℕ → Bool
 are_near d cycle counter target =
     counter == target || drifts d && (tick_later cycle counter == target || tick_later cycle target == counter)
 
--- after the tick of this number, at which a cycle begins with this target, counter and target are equal within so many ticks, and
--- near from then on
+-- after the tick of this number, at which a cycle begins with this target, counter and target are equal within that
+-- many ticks, and near from then on
 pub record ComesNear (d : Drift) (k : Correction) (number : ℕ) (past : List ℕ) (target most : ℕ) : Type 0 where
   pub moment : ℕ
   pub within : moment ≤ most
@@ -85,9 +86,9 @@ last_number (m ∷ past) = m.number
 abbrev pub cycles_needed : Drift → Tables → ℕ → ℕ → ℕ
 cycles_needed d t n target = cycles_for_one d * needed (correction_of t n) target * longest_cycle t n
 
--- since the first local zero after the last disturbance, which came within so many ticks, the counter has been corrected tick by
--- tick, and the target has gone on as the clock does; where the correction can follow the clock, they meet within the cycles needed,
--- and once they have they are held
+-- since the first local zero after the last disturbance, which came within that many ticks, the counter has been
+-- corrected tick by tick, and the target has continued as the clock does; where the correction can follow the clock,
+-- they meet within the cycles needed, and once they have they are held
 pub record OnPath (d : Drift) (t : Tables) (n most : ℕ) (past : List Moment) : Type 0 where
   pub mode : (last_frame past).mode ≡ Coord n
   pub zero : has_zero d past ≡ true

@@ -1,5 +1,5 @@
--- What is known of each tick of a cabinet whose clock drifts as is said, and what of that is carried along: so that the history meets
--- what coordination promises. Where the clock comes to another time than that, it counts as one that was set.
+-- What is known of each tick of a cabinet whose clock drifts as is said, and what of that is carried along: so that the
+-- history meets what coordination promises. If the clock shows a different time, it counts as one that was set.
 use Rattle.std.specs.Prelude.{ℕ, Bool, true, false, ◌≡◌, ◌⊎◌, ◌≤◌, ◌<◌, ◌+◌, ◌==◌, ◌&&◌, List, [], ◌∷◌}
 use Rattle.sig_types.specs.declared.frame.Mode.{Mode}
 use Rattle.sig_types.specs.declared.frame.Mode.TheVariants.{Seek, Coord}
@@ -46,7 +46,7 @@ pub record SeekFacts (d : Drift) (n : ℕ) (m l : Moment) (past : List Moment) :
   pub alone : are_coordinated_green m.tables n m.frame.veh ≡ true → ZeroHolds m.tables n m
   pub tick : (quiet_for d (m ∷ l ∷ past) ≤ 1) ⊎ ((l.frame.mode ≡ Seek n) × SeekTick m.tables n m l past)
 
--- what is known of a tick in step with pattern n after one in step with it
+-- what is known of a tick coordinated in pattern n after one coordinated in it
 pub record StepFacts (d : Drift) (n : ℕ) (m l : Moment) (past : List Moment) : Type 0 where
   pub command : m.command ≡ n
   pub number : m.number ≡ l.number + 1
@@ -61,14 +61,15 @@ pub record StepFacts (d : Drift) (n : ℕ) (m l : Moment) (past : List Moment) :
   pub plan : PlanServes m.tables n
   pub times : TimesServe m.tables n
 
--- a tick seeks the pattern in command or picks it up, is in step with it, or does neither: then none is defined, or it is a disturbance
+-- a tick seeks the pattern in command or picks it up, is coordinated in it, or does neither: then none is defined, or
+-- it is a disturbance
 pub data Tells (d : Drift) (m l : Moment) (past : List Moment) : Type 0 where
   Elsewhere : (mode : is_coord m.frame.mode ≡ false) → (idle : (is_defined m.tables m.command ≡ false) ⊎ (is_disturbed d (m ∷ l ∷ past) ≡ true))
       → (free : (n : ℕ) → m.frame.mode ≡ Seek n → ⊥) → Tells d m l past
   Seeks : (facts : SeekFacts d m.command m l past) → Tells d m l past
   Steps : (facts : StepFacts d m.command m l past) → Tells d m l past
 
--- this is known of each tick, from the moment before any tick on, which neither seeks a pattern nor is in step
+-- this is known of each tick, from the moment before any tick on, which neither seeks a pattern nor is coordinated
 abbrev pub TellsEach : Drift → List Moment → Type 0
 TellsEach d [] = ⊥
 TellsEach d (m ∷ []) = (is_coord m.frame.mode ≡ false) × ((n : ℕ) → m.frame.mode ≡ Seek n → ⊥)
@@ -87,7 +88,7 @@ pub record Seeking (d : Drift) (t : Tables) (n : ℕ) (past : List Moment) : Typ
   pub none : has_zero d past ≡ false
   pub soon : quiet_for d past < pickup_bound past
 
--- what is carried along in step
+-- what is carried along while coordinated
 pub record InStep (d : Drift) (t : Tables) (n : ℕ) (past : List Moment) : Type 0 where
   pub room : HasRoom (correction_of t n)
   pub cycle : InCycle d t n past

@@ -1,11 +1,12 @@
--- What a tick that is no disturbance leaves as it was.
+-- What a tick that is not a disturbance leaves as it was.
 use Rattle.std.specs.Prelude.{true, false, ◌≡◌, ◌⊎◌, ◌<◌, ◌+◌, ◌%◌}
 use Rattle.sig_tables.specs.Slots.{is_defined, cycle_time}
 use Rattle.sig_tables.specs.Clock.{day}
 use Rattle.sig_tables.specs.Past.{Moment}
 use Rattle.plan_facts.specs.Disturbances.{Drift, rise, interrupts}
 
--- moment m goes on as l: the same command and version, the clock as far on as its drift has it, no midnight that moves the target, no interruption
+-- moment m continues as l: the same command and version, the clock as far on as its drift has it, no midnight that
+-- moves the target, no interruption
 pub record CounterGoesOn (d : Drift) (m l : Moment) : Type 0 where
   pub command : m.command ≡ l.command
   pub version : m.frame.version ≡ l.frame.version

@@ -1,4 +1,4 @@
--- Ticks in a row of one version: those of a search for a pattern, and those in step with it.
+-- Ticks in a row of one version: those of a search for a pattern, and those coordinated in it.
 use Rattle.std.specs.Prelude.{ℕ, zero, suc, ◌≡◌, List, [], ◌∷◌}
 use Rattle.sig_tables.specs.declared.tables.Tables.{Tables}
 use Rattle.sig_tables.specs.View.{View}
@@ -16,14 +16,14 @@ pub record SeekTick (t : Tables) (n : ℕ) (m l : Moment) (past : List Moment) :
   pub sought : Sought view n (goal_in t (Seek n))
   pub gives : SearchGives view (goal_in t (Seek n)) m
 
--- after `start` so many ticks have sought pattern n
+-- after `start` that many ticks have sought pattern n
 abbrev pub Searches : Tables → ℕ → List Moment → ℕ → List Moment → Type 0
 Searches t n start zero now = now ≡ start
 Searches t n start (suc k) [] = ⊥
 Searches t n start (suc k) (m ∷ []) = ⊥
 Searches t n start (suc k) (m ∷ l ∷ past) = SeekTick t n m l past × Searches t n start k (l ∷ past)
 
--- moment m is given by a tick in step with pattern n, after the moments l ∷ past
+-- moment m is given by a tick coordinated in pattern n, after the moments l ∷ past
 pub record StepTick (t : Tables) (n : ℕ) (m l : Moment) (past : List Moment) : Type 0 where
   pub view : View
   pub tables : view.tables ≡ t
@@ -32,14 +32,15 @@ pub record StepTick (t : Tables) (n : ℕ) (m l : Moment) (past : List Moment) :
   pub gives : Gives view n l.frame.counter m
   pub counter : m.frame.counter ≡ view.counter
 
--- after `start` so many ticks have been in step with pattern n
+-- after `start` that many ticks have been coordinated in pattern n
 abbrev pub RunsInStep : Tables → ℕ → List Moment → ℕ → List Moment → Type 0
 RunsInStep t n start zero now = now ≡ start
 RunsInStep t n start (suc k) [] = ⊥
 RunsInStep t n start (suc k) (m ∷ []) = ⊥
 RunsInStep t n start (suc k) (m ∷ l ∷ past) = StepTick t n m l past × RunsInStep t n start k (l ∷ past)
 
--- wherever the counter was 0 at one of the last so many moments, both coordinated phases were Green and every other Red
+-- wherever the counter was 0 at one of the last that many moments, both coordinated phases were Green and every other
+-- Red
 abbrev pub EachZeroHolds : Tables → ℕ → ℕ → List Moment → Type 0
 EachZeroHolds t n zero now = Unit {0}
 EachZeroHolds t n (suc k) [] = Unit {0}

@@ -1,4 +1,5 @@
--- What the tick that gave a moment tells of it: its mode is what its command asks for, and its target what its clock asks for.
+-- What the tick that gave a moment says about it: its mode is what its command asks for, and its target what its clock
+-- asks for.
 use Rattle.std.specs.Prelude.{ℕ, ◌≡◌, ◌<◌, true, false}
 use Rattle.sig_types.specs.declared.frame.Mode.{Mode}
 use Rattle.sig_types.specs.declared.frame.Mode.TheVariants.{Free, Seek, Coord}
@@ -10,8 +11,8 @@ use Rattle.sig_tables.specs.Choosing.{is_in_step}
 use Rattle.sig_tables.specs.Past.{Moment}
 use Rattle.tick_laws.specs.InStep.{NamesOn}
 
--- the mode of a tick before its colours are known, after frame f, under tables t of version v and with pattern n in command: Free
--- where the pattern is not defined, else the pattern, sought where the frame is not in step with it
+-- the mode of a tick before its colours are known, after frame f, under tables t of version v and with pattern n in
+-- command: Free where the pattern is not defined, else the pattern, sought where the frame is not coordinated in it
 abbrev pub Obeys : Tables → ℕ → Frame → ℕ → Mode → Type 0
 Obeys t v f n Free = is_defined t n ≡ false
 Obeys t v f n (Seek k) = (k ≡ n) × (is_defined t n ≡ true) × (is_in_step f v n ≡ false)
@@ -25,7 +26,7 @@ ModeFollows t n (Seek k) = k ≡ n
 ModeFollows t n (Coord k) = k ≡ n
 ModeFollows t n mode = Unit {0}
 
--- what is told of a moment
+-- what is reported of a moment
 pub record MomentTold (m : Moment) : Type 0 where
   pub clock : m.clock < day
   pub named : NamesOn m.tables m.frame

@@ -1,4 +1,5 @@
--- Histories whose tables hold in each row what may stand there, so that no cycle is longer than the steps of a slow drift allow.
+-- Histories whose tables hold in each row what is allowed there, so that no cycle is longer than the steps of a slow
+-- drift allow.
 use Rattle.std.specs.Prelude.{List}
 use Rattle.sig_tables.specs.declared.tables.Tables.{Tables}
 use Rattle.sig_tables.specs.InRange.{InRange}

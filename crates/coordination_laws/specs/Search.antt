@@ -42,7 +42,7 @@ pub record GreatestKeeps (g : Greatest) (t : Tables) (p : ℕ) : Type 0 where
   pub revert : red_revert_time t p ≤ g.revert
   pub some : 1 ≤ yellow_time t p
 
--- ---- a phase outside the goal, so many ticks after the last disturbance
+-- ---- a phase outside the goal, that many ticks after the last disturbance
 pub record OutGreen (g : Greatest) (t : Tables) (p ticks : ℕ) (past : List Moment) : Type 0 where
   pub ran : ticks + 1 ≤ run p Green past
   pub least : least_green (latched p Green t past) p ≤ g.service

@@ -1,5 +1,5 @@
 //! Undisturbed coordination keeps its promise: from what each tick is, every history meets it, also of a clock that
-//! drifts. The functions have no bodies: each represents the laws of its contract, which callers cite. (FHWA Signal
+//! drifts. The functions have no bodies: their contracts are the laws, which callers cite. (FHWA Signal
 //! Timing Manual: coordination, offset, transition.)
 ghost use Rattle.std.specs.Prelude.{ℕ, ◌≡◌, ◌⊎◌, ◌<◌, ◌+◌, ◌%◌, ◌∷◌, [], List, false};
 ghost use Rattle.sig_tables.specs.declared.tables.Tables.{Tables};

@@ -1,5 +1,5 @@
 //! Undisturbed coordination, in every lawful history: each tick is as the laws of a seek and of a coordinated pattern
-//! require, so the whole promise holds of it. The functions have no bodies: each represents the laws of its contract.
+//! require, so the whole promise holds of it. The functions have no bodies: their contracts are the laws.
 //! (FHWA Signal Timing Manual: coordination, offset, transition.)
 ghost use Rattle.std.specs.Prelude.{ℕ, ◌≡◌, ◌⊎◌, ◌≤◌, ◌<◌, ◌+◌, ◌∷◌, List, true, false};
 ghost use Rattle.sig_tables.specs.Slots.{is_defined, cycle_time};
@@ -13,9 +13,10 @@ ghost use Rattle.plan_facts.specs.Bounds.{zero_bound, offset_bound};
 ghost use Rattle.plan_facts.specs.Meets.{MeetsNow, MeetsEach, Meets, is_zero, is_green, has_zero, zero_target, can_follow, NotSooner};
 ghost use Rattle.coordination_laws.specs.Ranged.{EachInRange};
 
-/// In every lawful history both coordinated phases are green at each local zero. Where nothing disturbs the cabinet for the bound after a
-/// disturbance at which a defined pattern is in command, a local zero comes in time, from whatever state that leaves; and where nothing
-/// disturbs it for the cycles that the correction needs besides, the offset is met by then, and held until the next disturbance.
+/// In every lawful history both coordinated phases are green at each local zero. Where nothing disturbs the cabinet for
+/// the bound after a disturbance at which a defined pattern is in command, a local zero comes in time, from whatever
+/// state that leaves; and where nothing disturbs it for the cycles that the correction needs in addition, the offset is
+/// met by then, and held until the next disturbance.
 ///
 /// With a clock that drifts, counter and target meet within twice the needed cycles and are then at most one tick
 /// apart; one that gains is followed only by shortway. The drift is one that a cabinet may have: it gains or loses, not

@@ -1,5 +1,5 @@
 //! Undisturbed coordination, cycle after cycle: a local zero comes within the longest cycle, and the offset is met
-//! within the cycles that the correction needs. The functions have no bodies: each represents the laws of its contract,
+//! within the cycles that the correction needs. The functions have no bodies: their contracts are the laws,
 //! which callers cite. (FHWA Signal Timing Manual: offset, transition.)
 ghost use Rattle.std.specs.Prelude.{ℕ, ◌≡◌, ◌≤◌, ◌<◌, ◌+◌, ◌-◌, ◌*◌, ◌⊎◌, ◌∷◌, List, true, false};
 ghost use Rattle.sig_tables.specs.declared.tables.Tables.{Tables};

@@ -1,6 +1,6 @@
 //! Coordination over histories: a seek for a pattern ends in time, a coordinated cabinet keeps its offset, and what
-//! both give of a history that nothing disturbs (FHWA Signal Timing Manual: transition into coordination). The
-//! functions have no bodies: each represents the laws of its contract, which callers cite.
+//! follows from both for a history that nothing disturbs (FHWA Signal Timing Manual: transition into coordination). The
+//! functions have no bodies: their contracts are the laws, which callers cite.
 #![tactic(auto)]
 
 mod coordination_kept;

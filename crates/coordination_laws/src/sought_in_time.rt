@@ -1,6 +1,6 @@
 //! Ticks in a row that seek a pattern, and ticks in a row that are coordinated in it: the seek is over within the bound
 //! that the longest times so far give, and while coordinated every local zero is green. The functions have no bodies:
-//! each represents the laws of its contract, which callers cite. (FHWA Signal Timing Manual: transition into
+//! their contracts are the laws, which callers cite. (FHWA Signal Timing Manual: transition into
 //! coordination.)
 ghost use Rattle.std.specs.Prelude.{ℕ, ◌≡◌, ◌≤◌, ◌+◌, ◌∷◌, List, Bool, true, false};
 ghost use Rattle.sig_types.specs.declared.frame.Mode.TheVariants.{Seek, Coord};

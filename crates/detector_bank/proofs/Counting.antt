@@ -14,7 +14,7 @@ zeros zero i z = refl
 zeros (suc n) zero z = refl
 zeros (suc n) (suc i) z = zeros n i z
 
--- an item of a list, whatever stands for one past its end
+-- an item of a list, whatever represents one past its end
 pub same-item : {A : Type 0} (xs : List A) (k : ℕ) (a b : A) → k < length xs → get_or xs k a ≡ get_or xs k b
 same-item [] k a b h = absurd (omega (arith, h))
 same-item (x ∷ xs) zero a b h = refl

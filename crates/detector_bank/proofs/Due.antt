@@ -1,4 +1,4 @@
--- A detector calls as it does until the round that is due, where no pulse comes.
+-- A detector calls as it does until the round that must be examined, where no pulse comes.
 use Rattle.std.proofs.Common.{◌≡◌, ◌≢◌, ℕ, ◌+◌, ◌-◌, ◌<◌, ◌≤◌, ◌==◌, ◌||◌, ◌&&◌, Bool, true, false, if◌then◌else◌, nat_lt, nat_le, List, refl, sym, ap, ap₂, ◌∙◌, arith}
 use Rattle.detector_bank.specs.declared.bank.Detector.{Detector}
 use Rattle.detector_bank.specs.declared.bank.Pulse.{Pulse}
@@ -7,7 +7,7 @@ use Rattle.detector_bank.specs.Bank.{quiet, latest_edges, has_no_activity, is_lo
 use Rattle.detector_bank.specs.Watching.{present_at, lately_at, Watches}
 use Rattle.detector_bank.proofs.Reaching.{none-present, reached-still, passed-still, until-still, not-passed}
 
--- the round that is due is no later than each of these, where it is yet to come
+-- the round that must be examined is no later than each of these, where it is yet to come
 pub record Quiet (w : Watch) (d : Detector) (round i : ℕ) : Type 0 where
   pub up : round ≤ i
   pub silent : round < w.last_pulse + d.no_activity → i < w.last_pulse + d.no_activity

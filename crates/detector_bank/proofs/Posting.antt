@@ -1,4 +1,5 @@
--- What is kept of a detector stands for a round that is due once it was looked at, and for one that is not due without a look.
+-- What is kept of a detector represents a round that must be examined once it was looked at, and for one that need not
+-- be examined without a look.
 use Rattle.std.proofs.Common.{◌≡◌, ℕ, ◌+◌, ◌-◌, ◌*◌, ◌%◌, ◌<◌, ◌≤◌, false, List, [], length, take, drop, get_or, sym, ap, ◌∙◌, subst, add-one, arith}
 use Rattle.detector_bank.specs.declared.bank.Detector.{Detector}
 use Rattle.detector_bank.specs.declared.bank.Pulse.{Pulse}
@@ -20,7 +21,7 @@ posted-start p sorted d ps watch before calls = record {
   still = λ i low high h. absurd (omega (arith, high));
 }
 
--- a round that is not due
+-- a round that need not be examined
 pub posted-quiet : (p : DetectorState) (due : ℕ) (sorted : List Pulse) (d : Detector) (ps : List Pulse) (j : ℕ) → j + 1 < due → Posted p due sorted d ps j
     → Posted p due sorted d ps (j + 1)
 posted-quiet p due sorted d ps j soon h = record {
@@ -42,7 +43,7 @@ posted-quiet p due sorted d ps j soon h = record {
     more : (x a : ℕ) → x < a * 4294967296 + (j + 1) → x < a * 4294967296 + (j + 1 + 1)
     more x a h = omega (arith, h)
 
--- a round that is due
+-- a round that must be examined
 pub posted-step : (old new : DetectorState) (due silent pulse next : ℕ) (sorted : List Pulse) (d : Detector) (ps : List Pulse) (j r n from end : ℕ)
     → r ≡ j + 1 → n ≡ key_of d.cabinet d.detector r → Sorts sorted ps → Posted old due sorted d ps j → from ≤ end → end ≤ length sorted
     → (Before sorted old.next n → Before sorted from n) → (Before sorted from (n + 1) → Before sorted end (n + 1))

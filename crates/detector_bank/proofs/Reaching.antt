@@ -1,4 +1,5 @@
--- Limits that are reached or not, as tests: from one round to the next, and for all rounds before one that is due.
+-- Limits that are reached or not, as tests: from one round to the next, and for all rounds before one that must be
+-- examined.
 use Rattle.std.proofs.Common.{◌≡◌, ◌⊎◌, inl, inr, ℕ, suc, ◌+◌, ◌-◌, ◌<◌, ◌≤◌, ◌==◌, ◌||◌, ◌&&◌, Bool, true, false, nat_lt, nat_le, if◌then◌else◌, refl, sym, ap, ◌∙◌, arith}
 use Rattle.std.proofs.lemmas.Bool.{ltb-true, ltb-false, leb-true, lt-ltb, le-ltb, le-leb, lt-leb}
 use Rattle.std.proofs.lemmas.Bool.Decides.{Decides-eqb}
@@ -26,7 +27,7 @@ pub and-false : (a b : Bool) → b ≡ false → (a && b) ≡ false
 and-false true b e = e
 and-false false b e = refl
 
--- a number of rounds in a row that ends now goes on
+-- a number of rounds in a row that ends now continues
 pub still-present : (on : Bool) (last_on last_inactive j : ℕ) → last_on ≤ j → last_inactive ≤ j
     → (if on then (if on || (last_on == j) then j - last_inactive else 0) + 1 else 0) ≡ (if on || (last_on == suc j) then suc j - last_inactive else 0)
 still-present true last_on last_inactive j a b = omega arith
@@ -41,7 +42,7 @@ pub present-few : (b : Bool) (last_inactive j : ℕ) → (if b then j - last_ina
 present-few true last_inactive j = omega arith
 present-few false last_inactive j = omega arith
 
--- the last round past the delay lies no longer ago than so many rounds: one round later
+-- the last round past the delay lies no longer ago than that many rounds: one round later
 later-round : (j past m : ℕ) → nat_le j (past + m) ≡ nat_le (suc j) (past + suc m)
 later-round j past m =
     same-test (nat_le j (past + m)) (nat_le (suc j) (past + suc m)) (λ e. let l = leb-true j (past + m) e in le-leb (suc j) (past + suc m) (omega (arith, l)))
@@ -91,7 +92,8 @@ first-next true p j old past low is = refl
 first-next false true j old past low is = now-only false j past (omega (arith, is))
 first-next false false j old past low is = now-only false j past (omega (arith, is, low))
 
--- a limit is reached in a later round if and only if it is in this one, where that round comes before the one that is due
+-- a limit is reached in a later round if and only if it is in this one, where that round comes before the one that must
+-- be examined
 pub reached-still : (span from a i : ℕ) → a ≤ i → (a < from + span → i < from + span) → nat_le span (i - from) ≡ nat_le span (a - from)
 reached-still span from a i up due = at (nat_lt a (from + span)) refl
   where

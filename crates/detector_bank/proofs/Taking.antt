@@ -1,4 +1,4 @@
--- The pulses of a round are taken one by one: what those behind a place still do.
+-- The pulses of a round are taken one by one: what those after a place still do.
 use Rattle.std.proofs.Common.{◌≡◌, ℕ, ◌+◌, ◌<◌, ◌≤◌, Bool, true, false, ◌&&◌, ◌||◌, not, if◌then◌else◌, List, [], ◌∷◌, length, drop, get_or, refl, sym, ap, ◌∙◌, arith}
 use Rattle.std.proofs.lemmas.List.{drop_more, drop_all}
 use Rattle.detector_bank.specs.declared.bank.Detector.{Detector}

@@ -84,11 +84,11 @@ walked-all old now ds round k past w ps j is h = record {
       (w.done ps j i p d is h (omega (arith, past, low)) low);
 }
 
--- what stands for a detector past the end
+-- what represents a detector past the end
 pub no-detector_state : DetectorState
 no-detector_state = record { watch = record { on = false; last_pulse = 0; last_on = 0; last_inactive = 0; last_past_delay = 0; most = 0; rounds = []; edges = [] }; next = 0; calls = false }
 
--- a detector that isn't due stays as it is
+-- a detector that need not be examined stays as it is
 pub looks-quiet : (w : Walk) (d : Detector) (k round due : ℕ) → k < length w.dues.items → due ≡ get_or w.dues.items k due → round < due → Looks w w d k round
 looks-quiet w d k round due inside is soon = record {
   sorted = refl;

@@ -7,7 +7,7 @@ use Rattle.detector_bank.specs.declared.bank.Edge.{Edge}
 use Rattle.detector_bank.specs.Pulses.{edges_in}
 use Rattle.detector_bank.specs.Bank.{failed, called}
 
--- each detector stands at one of 64 cabinets and calls one of 16 phases
+-- each detector is at one of 64 cabinets and calls one of 16 phases
 abbrev pub EachStands : List Detector → Type 0
 EachStands ds =
     (k : ℕ) (d : Detector) → k < length ds

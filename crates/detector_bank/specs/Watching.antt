@@ -1,4 +1,5 @@
--- What is kept of a detector stands for what its pulses say; nothing of it changes in a round without a pulse of the detector.
+-- What is kept of a detector represents what its pulses say; nothing of it changes in a round without a pulse of the
+-- detector.
 use Rattle.std.specs.Prelude.{ℕ, ◌+◌, ◌-◌, ◌*◌, ◌%◌, ◌≡◌, ◌≢◌, ◌<◌, ◌≤◌, ◌==◌, ◌||◌, ◌&&◌, nat_lt, nat_le, Bool, true, false, if◌then◌else◌, List, [], ◌∷◌, length, get_or}
 use Rattle.std.specs.List.{filter}
 use Rattle.std.specs.List.Sorted.{IsNonDecreasingBy}
@@ -44,7 +45,7 @@ pub record Watches (w : Watch) (d : Detector) (ps : List Pulse) (j : ℕ) : Type
   pub most : latest_edges d ps 60 j ≤ w.most
   pub counts : Counts w d ps j
 
--- the number by which pulses are sorted: those of a detector stand together, by rounds
+-- the number by which pulses are sorted: those of a detector are together, by rounds
 abbrev pub key_of : ℕ → ℕ → ℕ → ℕ
 key_of cabinet detector round = (cabinet % 1024 * 256 + detector) * 4294967296 + round
 
@@ -65,7 +66,8 @@ pub record Sorts (sorted ps : List Pulse) : Type 0 where
 abbrev pub Before : List Pulse → ℕ → ℕ → Type 0
 Before sorted place n = (k : ℕ) (p : Pulse) → k < place → key (get_or sorted k p) < n
 
--- after round j, until the round that is due: the detector has no pulse, and it calls if and only if it does in round j
+-- after round j, until the round that must be examined: the detector has no pulse, and it calls if and only if it does
+-- in round j
 pub record Posted (p : DetectorState) (due : ℕ) (sorted : List Pulse) (d : Detector) (ps : List Pulse) (j : ℕ) : Type 0 where
   pub watch : Watches p.watch d ps j
   pub before : Before sorted p.next (key_of d.cabinet d.detector (j + 1))
@@ -73,13 +75,13 @@ pub record Posted (p : DetectorState) (due : ℕ) (sorted : List Pulse) (d : Det
   pub told : p.calls ≡ calls d ps j
   pub still : (i : ℕ) → j ≤ i → i < due → Watches p.watch d ps i → calls d ps i ≡ calls d ps j
 
--- the walk has a state and a round that is due for each detector
+-- the walk has a state and a round that must be examined for each detector
 pub record WalkFits (w : Walk) (ds : List Detector) : Type 0 where
   pub few : length w.sorted.items ≤ 1000000
   pub detector_states : length w.detector_states.items ≡ length ds
   pub dues : length w.dues.items ≡ length ds
 
--- after round j it stands for what the pulses of each detector say
+-- after round j it represents what the pulses of each detector say
 pub record WalkStands (w : Walk) (ds : List Detector) (ps : List Pulse) (j : ℕ) : Type 0 where
   pub sorts : Sorts w.sorted.items ps
   pub each : (k : ℕ) (p : DetectorState) (d : Detector) → k < length ds → Posted (get_or w.detector_states.items k p) (get_or w.dues.items k 0) w.sorted.items (get_or ds k d) ps j
@@ -95,7 +97,7 @@ pub record Looks (old new : Walk) (d : Detector) (k round : ℕ) : Type 0 where
       → Posted (get_or old.detector_states.items k p) (get_or old.dues.items k 0) old.sorted.items d ps j
       → Posted (get_or new.detector_states.items k p) (get_or new.dues.items k 0) old.sorted.items d ps (j + 1)
 
--- how many of these detectors stand at a cabinet, have this phase, and call
+-- how many of these detectors are at a cabinet, have this phase, and call
 abbrev pub tally : List Detector → List DetectorState → ℕ → ℕ → ℕ
 tally [] detector_states cabinet phase = 0
 tally (d ∷ ds) [] cabinet phase = 0

@@ -22,7 +22,7 @@ pub struct Detector {
     pub erratic: u8,
 }
 
-/// A detector goes on or off in a round.
+/// A detector turns on or off in a round.
 #[derive(Clone, Copy, PartialEq, Eq)]
 pub struct Pulse {
     pub round: u32,
@@ -40,7 +40,7 @@ pub struct Call {
     pub on: bool,
 }
 
-/// How often a detector went on in a round.
+/// How often a detector turned on in a round.
 #[derive(Clone, Copy, PartialEq, Eq)]
 pub struct Edge {
     pub round: u32,

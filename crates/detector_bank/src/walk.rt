@@ -72,7 +72,7 @@ pub fn start(alloc: Global, bank: &Vec<Detector>, pulses: &Vec<Pulse>) -> Result
     }
 }
 
-/// Looks at a detector in a round that is due.
+/// Looks at a detector in a round that must be examined.
 fn look(walk: &mut Walk, detector: &Detector, k: usize, round: u32)
     requires detector_states { k < length walk.old.detector_states.items }
     requires dues { k < length walk.old.dues.items }

@@ -95,7 +95,7 @@ fn round_if(now: bool, round: u32, before: u32) -> u32
     if now { round } else { before }
 }
 
-/// The earlier of two rounds, where the second is so many rounds behind another, and that is yet to come.
+/// The earlier of two rounds, where the second is that many rounds after another, and that is yet to come.
 fn earlier(due: u32, from: u32, span: u32, round: u32) -> u32
     ensures most { result ≤ due }
     ensures behind { round < from + span → result ≤ from + span }

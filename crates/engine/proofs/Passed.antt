@@ -135,7 +135,7 @@ told-on mode j o new past by k l idle bound even few =
           ∙ ap (λ (ped : List Ped). same_signal (get_or ped (p - 1) Walk) Walk || same_signal (get_or ped (p - 1) Walk) Flashes) (sym a.ped);
     }
 
--- and it stands after all of them
+-- and it follows all of them
 pub told-after : {M : Type 0} (n : ℕ) (mode : Mode) (o : Engine M) (new : UnitCommands) (past : Past) → 0 < n → UnitCommandsPassed n o.context.unit_commands new
     → EngineKeeps nothing o past → Lasts mode n past → IsIdle o.context.requests → IsBound o.context.active_pattern past.tables mode
     → IsEven o.context.unit_commands past.tables n → past.tables.unit.backup ≤ 65535 → EngineKeeps nothing (passed n o new) (after n past)

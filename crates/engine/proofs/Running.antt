@@ -1,4 +1,4 @@
--- What a tick of an engine is about, for what is beside its memory.
+-- What a tick of an engine is about, except its memory.
 use Rattle.sig_tables.specs.Past.{Past}
 use Rattle.engine.specs.declared.Engine.{Engine}
 use Rattle.tick_context.specs.declared.tick_state.TickState.{TickState}

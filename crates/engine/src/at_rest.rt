@@ -90,7 +90,8 @@ impl<M: Memory> Engine<M> {
         }
     }
 
-    /// Whether this tick, of a cabinet that runs free and goes on to, with these phases that have demand, is one at rest.
+    /// Whether this tick, of a cabinet that runs free and continues to, with these phases that have demand, is one at
+    /// rest.
     pub(crate) fn is_at_rest(&self, demand: PhaseSet) -> bool
         ensures repeats { (past : Past) → EngineKeeps M.remembers self.now past → (frame_seen past).mode ≡ Free → mode_seen past ≡ Free
             → phases_of demand ≡ demand_with None past → IsTrue result → Repeats past }
@@ -125,8 +126,8 @@ impl<M: Memory> Engine<M> {
         self.repeat(command, clock, active, PhaseSet::empty())
     }
 
-    /// Whether this tick, of a cabinet that runs free and goes on to, is plain: what clears or walks goes on with it, no walk
-    /// begins, and no Green phase is done, or none has demand.
+    /// Whether this tick, of a cabinet that runs free and continues to, is plain: what clears or walks continues with
+    /// it, no walk begins, and no Green phase is done, or none has demand.
     pub(crate) fn is_plain(&self, tick_inputs: &TickInputs) -> bool
         requires few { tick_count M.frames self.now < 4294967295 }
         ensures repeats { (past : Past) → EngineKeeps M.remembers self.now past → Sees tick_inputs.now past → (frame_seen past).mode ≡ Free → mode_seen past ≡ Free
@@ -148,7 +149,7 @@ impl<M: Memory> Engine<M> {
         }
     }
 
-    /// Whether this tick gives the last frame again, of a cabinet that runs free and goes on to.
+    /// Whether this tick gives the last frame again, of a cabinet that runs free and continues to.
     pub(crate) fn repeats(&self, tick_state: &TickState, tick_inputs: &TickInputs) -> bool
         requires few { tick_count M.frames self.now < 4294967295 }
         ensures repeats { (past : Past) → Runs M.remembers self.now tick_state.now past → Sees tick_inputs.now past → (frame_seen past).mode ≡ Free

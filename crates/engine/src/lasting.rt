@@ -1,5 +1,5 @@
-//! For how many ticks a phase goes on with what it shows: until the first of its intervals is over, or a point of the plan
-//! comes at which it may end. An answer that is too small makes a stride shorter, and no frame another.
+//! For how many ticks a phase continues with what it shows: until the first of its intervals is over, or a point of the
+//! plan comes at which it may end. An answer that is too small makes a stride shorter, and no frame another.
 
 ghost use Rattle.std.specs.Prelude.{◌≡◌, ◌<◌, ◌≤◌, ◌&&◌, ◌⊎◌, ℕ, true, not, Option, None, Some};
 
@@ -155,7 +155,7 @@ impl<M: Memory> Engine<M> {
         self.context.unforced_left(phase)
     }
 
-    /// For how many ticks more a phase, 1 to 16, goes on with what it shows.
+    /// For how many ticks more a phase, 1 to 16, continues with what it shows.
     fn phase_left(&self, phase: u8) -> u32
         requires above { 0 < phase }
         requires within { phase ≤ 16 }
@@ -168,7 +168,7 @@ impl<M: Memory> Engine<M> {
         colour.min(signal).min(self.green_left(phase))
     }
 
-    /// The same of what may be no phase: that goes on for ever.
+    /// The same of what may be no phase: that continues for ever.
     fn place_left(&self, phase: u8) -> u32
         requires few { tick_count M.frames self.now < 4294967295 }
         ensures left { (past : Past) (k : ℕ) → EngineKeeps M.remembers self.now past → IsBound self.now.context.active_pattern past.tables self.now.context.frame.mode
@@ -184,8 +184,8 @@ impl<M: Memory> Engine<M> {
         }
     }
 
-    /// For how many ticks more all phases go on with what they show. Only those that are on in a ring are looked at: where
-    /// another is on, or shows Walk or Flash, this says none.
+    /// For how many ticks more all phases continue with what they show. Only those that are on in a ring are looked at:
+    /// where another is on, or shows Walk or Flash, this says none.
     pub(crate) fn phases_left(&self) -> u32
         requires few { tick_count M.frames self.now < 4294967295 }
         ensures left { (past : Past) (k p : ℕ) → EngineKeeps M.remembers self.now past → IsBound self.now.context.active_pattern past.tables self.now.context.frame.mode

@@ -1,7 +1,7 @@
 //! The engine of a cabinet: what its phases show after each tick of 0.1 s. Two rings of phases are served by the rules
 //! of actuated control (NEMA TS 2, FHWA Signal Timing Manual), in free operation and coordinated in the patterns of a
 //! timing plan; preemption, flash, priority requests, commands, clocks and downloads may occur at any time. The
-//! definitions look back over past frames; the engine asks a memory of them. It is proved once, for every memory.
+//! definitions look back over past frames; the engine asks a memory about them. It is proved once, for every memory.
 #![tactic(auto)]
 
 ghost use Rattle.std.specs.Prelude.{◌≡◌, ◌<◌, ◌≤◌, ◌+◌};

@@ -29,7 +29,7 @@ impl<M: Memory> Engine<M> {
     ghost use Rattle.engine.specs.Passed.{GoesEvenly};
     ghost use Rattle.engine.specs.EngineStands.{EngineKeeps, EngineStands, tick_count, install_count};
 
-    /// What is seen of the phases, where the mode goes on.
+    /// What is seen of the phases, where the mode continues.
     fn tick_inputs_kept(&self) -> TickInputs
         ensures looks { (past : Past) → EngineKeeps M.remembers self.now past → IsBound self.now.context.active_pattern past.tables self.now.context.frame.mode
             → Looks (bound self.now.context.frame.mode) result past }
@@ -47,7 +47,7 @@ impl<M: Memory> Engine<M> {
         }
     }
 
-    /// Whether free operation goes on, and no walk begins, where these phases are opposed.
+    /// Whether free operation continues, and no walk begins, where these phases are opposed.
     fn stays_at_free(&self, opposed: PhaseSet) -> bool
         ensures free { (past : Past) → EngineKeeps M.remembers self.now past → IsFresh past → Has opposed (is_in (opposed_with None past)) → IsTrue result
             → StaysFree past }
@@ -82,7 +82,7 @@ impl<M: Memory> Engine<M> {
         }
     }
 
-    /// For how many ticks more the mode goes on, where these phases are opposed.
+    /// For how many ticks more the mode continues, where these phases are opposed.
     fn mode_left(&self, opposed: PhaseSet) -> u32
         ensures left { (past : Past) (k : ℕ) → EngineKeeps M.remembers self.now past → IsBound self.now.context.active_pattern past.tables self.now.context.frame.mode → IsFresh past
             → GoesEvenly self.now k → Has opposed (is_in (opposed_with (bound self.now.context.frame.mode) past)) → 0 < k → k ≤ result
@@ -102,7 +102,7 @@ impl<M: Memory> Engine<M> {
         }
     }
 
-    /// For how many ticks more the mode and all phases go on, where this is seen of them.
+    /// For how many ticks more the mode and all phases continue, where this is seen of them.
     fn all_left(&self, tick_inputs: &TickInputs) -> u32
         requires few { tick_count M.frames self.now < 4294967295 }
         ensures lasts { (past : Past) (k : ℕ) → EngineKeeps M.remembers self.now past → IsBound self.now.context.active_pattern past.tables self.now.context.frame.mode → IsFresh past

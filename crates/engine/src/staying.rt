@@ -37,7 +37,8 @@ impl<M: Memory> Engine<M> {
         }
     }
 
-    /// Whether every phase that shows Walk or Flash goes on with it. Where one does that is on in no ring, this says no.
+    /// Whether every phase that shows Walk or Flash continues with it. Where one does that is on in no ring, this says
+    /// no.
     pub(crate) fn all_walk_on(&self) -> bool
         requires few { tick_count M.frames self.now < 4294967295 }
         ensures stays { (past : Past) (p : ℕ) → EngineKeeps M.remembers self.now past → mode_seen past ≡ Free → IsTrue result → is_phase p ≡ true

@@ -1,5 +1,5 @@
-//! A tick as a whole, once the pattern in command is known. Most of what a tick is about is plain where the cabinet runs free
-//! and goes on to, and is then not looked for.
+//! A tick as a whole, once the pattern in command is known. Most of what a tick is about is plain where the cabinet
+//! runs free and continues to, and is then not looked for.
 
 ghost use Rattle.std.specs.Prelude.{◌≡◌, ◌<◌, ◌+◌, []};
 
@@ -8,7 +8,7 @@ use flash_mode::RingTurn;
 use sig_types::{Frame, Mode, PhaseSet};
 use tick_context::{TickInputs, TickState};
 
-/// What a tick is about in a cabinet that runs free and goes on to, with this pattern in command, at this time.
+/// What a tick is about in a cabinet that runs free and continues to, with this pattern in command, at this time.
 fn free_tick_state(command: u8, clock: u32) -> TickState
     ensures tick_state { (past : Past) → (frame_seen past).mode ≡ Free → mode_seen past ≡ Free → command ≡ command_now past → clock ≡ clock_now past
         → TickStateIs result past }
@@ -59,7 +59,7 @@ impl<M: Memory> Engine<M> {
         next.frame
     }
 
-    /// The frame of a tick of a cabinet that runs free and goes on to, with this pattern in command.
+    /// The frame of a tick of a cabinet that runs free and continues to, with this pattern in command.
     pub(crate) fn tick_free(&mut self, command: u8) -> Frame
         requires few { tick_count M.frames self.old < 4294967295 }
         ensures given { (past : Past) → EngineKeeps M.remembers self.old past → (frame_seen past).mode ≡ Free → mode_seen past ≡ Free

@@ -87,8 +87,8 @@ impl<M: Memory> Engine<M> {
         )
     }
 
-    /// Whether every phase keeps the signal that it has in these of the last frame: no walk begins, and those that show Walk or
-    /// Flash go on with it.
+    /// Whether every phase keeps the signal that it has in these of the last frame: no walk begins, and those that show
+    /// Walk or Flash continue with it.
     pub(crate) fn is_steady(&self, tick_state: &TickState, ped: &[Ped; 16], walks: PhaseSet) -> bool
         requires few { tick_count M.frames self.now < 4294967295 }
         ensures steady { (past : Past) (begins : ℕ → Bool) → Runs M.remembers self.now tick_state.now past → Has walks begins → ped.now ≡ (frame_seen past).ped
@@ -101,8 +101,8 @@ impl<M: Memory> Engine<M> {
         }
     }
 
-    /// Whether every phase that shows Walk or Flash goes on with it. Only those that are on in a ring are looked at: where
-    /// another signals, this says no.
+    /// Whether every phase that shows Walk or Flash continues with it. Only those that are on in a ring are looked at:
+    /// where another signals, this says no.
     fn signals_on(&self, tick_state: &TickState) -> bool
         requires few { tick_count M.frames self.now < 4294967295 }
         ensures stays { (past : Past) (p : ℕ) → Runs M.remembers self.now tick_state.now past → IsTrue result → is_phase p ≡ true

@@ -32,7 +32,7 @@ call-added old now calls i call v s within is value added before =
     ap (λ (x : Data). both first (item x no_items)) value ∙ calls-next calls i call within is in
     subst (Writes now) (inputs-twice first (item v no_items) s ∙ ap (λ (es : Items). more_inputs es s) all) (added (with_inputs (take i calls) s) plain before)
 
--- behind the last
+-- after the last
 pub calls-added : (now : ScenarioText) (calls : List Call) (i : ℕ) (s : Data) → length calls ≤ i → Writes now (with_inputs (take i calls) s) → Writes now (with_inputs calls s)
 calls-added now calls i s all h = subst (λ (cs : List Call). Writes now (with_inputs cs s)) (take_all i calls all) h
 
@@ -41,7 +41,7 @@ pub entries-plain : (entries : List Entry) → items_have_float (items_of (map e
 entries-plain [] = refl
 entries-plain (entry ∷ entries) = entries-plain entries
 
--- and stand as the schedule
+-- and are the schedule
 pub entries-put : (old now : ScenarioText) (entries : List Entry) (vs : List Data) (s : Data) → vs ≡ map entry_value entries
     → ((d : Data) → items_have_float (items_of vs) ≡ false → Writes old d → Writes now (another_schedule (items_of vs) d)) → Writes old s → Writes now (with_schedule (Some entries) s)
 entries-put old now entries vs s is put before =

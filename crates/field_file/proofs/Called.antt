@@ -21,7 +21,7 @@ each-stands cabinets ds few placed k d low =
     let here : (get_or ds k d).cabinet ≤ 64 = omega (arith, at.few, few) in
     (at.some, here, at.least, at.most)
 
--- no phase is called at a cabinet that none of the detectors stands at
+-- no phase is called at a cabinet that none of the detectors is at
 elsewhere : (a b : ℕ) (other : Bool) → b < a → ((b == a) && other) ≡ false
 elsewhere a b other less = from (b == a) refl
   where

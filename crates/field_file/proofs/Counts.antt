@@ -50,7 +50,7 @@ cell-in table new c periods es i e s n within is section period some few here ot
         let differs : place ≢ n * 8 + (s - 1) = λ same. let equal : n ≡ m = omega (arith, is_place, same, some, few, least, most) in eqb-false _ m q (sym period ∙ equal) in
         others place differs ∙ old ∙ ap kept (omega (arith, sym next))
 
--- an edge of another section, or of a period behind the table
+-- an edge of another section, or of a period after the table
 pub cell-out : (table : List ℕ) (c : Counted) (periods : ℕ) (es : List Edge) (i : ℕ) (e : Edge) → i < length es → e ≡ get_or es i e
     → (1 ≤ section_of c.sections e.cabinet → section_of c.sections e.cabinet ≤ 8 → period_of c.period e.round < periods → ⊥)
     → HasVolumes table c periods (take i es) → HasVolumes table c periods (take (i + 1) es)
@@ -70,6 +70,6 @@ cell-out table c periods es i e within is outside before = λ m t low least most
     at m t low least most false b p q next = ap kept (omega (arith, sym next))
     at m t low least most true false p q next = ap kept (omega (arith, sym next))
 
--- behind the last
+-- after the last
 pub cells-all : (table : List ℕ) (c : Counted) (periods : ℕ) (es : List Edge) (i : ℕ) → length es ≤ i → HasVolumes table c periods (take i es) → HasVolumes table c periods es
 cells-all table c periods es i all h = subst (λ (xs : List Edge). HasVolumes table c periods xs) (take_all i es all) h

@@ -1,4 +1,4 @@
--- A scenario without faults has none with calls behind its inputs, and none with a schedule in its master.
+-- A scenario without faults has none with calls after its inputs, and none with a schedule in its master.
 use Rattle.std.proofs.Common.{◌≡◌, ◌≤◌, ◌+◌, ◌*◌, inl, inr, ℕ, true, false, List, [], ◌∷◌, ◌++◌, length, map, bytes_eq, codes, Option, Some, None, refl, sym, ap, ◌∙◌, subst}
 use Rattle.serde_json.specs.Data.{Data, null, boolean, number, string, array, object, Items, Members, put}
 use Rattle.serde_json.specs.Events.{items_len}
@@ -69,7 +69,7 @@ scenario-put k v ms apart known fit e =
     subst (λ (cs : List CabinetContent). all_table_faults 1 cs ≡ []) (sym (same-cabinets k v ms apart)) parts.2 in
     none-of-three _ _ _ named product tables
 
--- what stands at each name of a scenario without faults
+-- what is at each name of a scenario without faults
 fields-clean : (d : Data) → faults d ≡ [] → AllClean [] d (fields_at d)
 fields-clean d e =
     all-clean [] d (fields_at d) (object-in (scenario_shape (version_number d) (round_count d) (cabinet_count d)) [] d (faultless-parts d e).0).0

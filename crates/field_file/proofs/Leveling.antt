@@ -44,12 +44,12 @@ level-kept steps told now v =
       lt-kept (step_to steps (now - 1)).down v (told (now - 1)).1,
     ) refl
 
--- an entry behind period n is that between two levels
+-- an entry after period n is that between two levels
 pub change-is : (c : Counted) (second n : ℕ) (rule : RuleContent) (before now : ℕ) → before ≡ level_after c rule n → now ≡ level_after c rule (suc n)
     → change_between second rule before now ≡ change_of c second n rule
 change-is c second n rule before now p q = rw (p, q) refl
 
--- the rules behind a place have entries still to come
+-- the rules after a place have entries still to come
 pub changes-next : (c : Counted) (second n : ℕ) (rules : List RuleContent) (k : ℕ) (r : RuleContent) (old found more : List Entry) → k < length rules → more ≡ change_of c second n (get_or rules k r)
     → found ++ changes c second n (drop k rules) ≡ old → (found ++ more) ++ changes c second n (drop (k + 1) rules) ≡ old
 changes-next c second n rules k r old found more within is before =
@@ -123,7 +123,7 @@ rule-stands rules k x low is stand =
     let len : length (map rule_content rules) ≡ length rules = length-map rules rule_content in
     subst RuleStands (rule-here rules k x (rule_content x) low is) (stand k (rule_content x) (omega (arith, low, len)))
 
--- what a rule's level was before a period and is behind it
+-- what a rule's level was before a period and is after it
 pub level-before : (c : Counted) (rules : List Rule) (k n : ℕ) (rule : Rule) (levels old : List ℕ) (before : ℕ) → k < length rules → rule ≡ get_or rules k rule
     → AreLevels old c (map rule_content rules) n → before ≡ get_or levels k before → get_or levels k before ≡ get_or old k before → before ≡ level_after c (rule_content rule) n
 level-before c rules k n rule levels old before low is are here kept_so =

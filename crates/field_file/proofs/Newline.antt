@@ -1,4 +1,4 @@
--- A newline behind a printed text changes nothing of what is read.
+-- A newline after a printed text changes nothing of what is read.
 use Rattle.std.proofs.Common.{◌≡◌, ℕ, Bool, true, false, cond, ◌&&◌, List, [], ◌∷◌, ◌++◌, Some, option_and_then, refl, sym, ap, ap₂, ◌∙◌, append_assoc}
 use Rattle.std.proofs.lemmas.Str.{IsUtf8-append}
 use Rattle.std.specs.Prelude.{IsUtf8}
@@ -48,7 +48,7 @@ lex-token (boolean false) r h ended = ap₂ (λ b l. token (cond b (boolean fals
 lex-token null r h ended = ap₂ (λ b l. token (cond b null bad) ∷ l) (ended refl) (in_word-ended r (ended refl))
 lex-token bad r h ended = refl
 
--- after a value stands a comma, a closing bracket or what is behind all
+-- a value is followed by a comma, a closing bracket or the end of all
 value_ends : (ts : List Token) (r : List ℕ) → ends_word r ≡ true → ends_word (print_from true ts ++ r) ≡ true
 unfolding print_from
 value_ends [] r h = h

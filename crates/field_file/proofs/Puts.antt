@@ -1,4 +1,4 @@
--- An object with a value put at a name: what stands at the names, and its faults.
+-- An object with a value put at a name: what is at the names, and its faults.
 use Rattle.std.proofs.Common.{◌≡◌, ◌⊎◌, inl, inr, ℕ, true, false, List, [], ◌∷◌, ◌++◌, Option, unwrap_or, bytes_eq, refl, ap, ◌∙◌}
 use Rattle.serde_json.specs.Data.{Data, null, object, Members, put}
 use Rattle.serde_json.specs.Find.{get_member}
@@ -10,7 +10,7 @@ use Rattle.scenario_read.proofs.KnownNames.{known-put}
 use Rattle.scenario_read.proofs.NameOrder.{apart}
 use Rattle.scenario_read.proofs.NoFaults.{none-left, none-both}
 
--- at another name stands what stood there
+-- another name has what was there
 pub value-other : (f : Field) (k : List ℕ) (v : Data) (ms : Members) → bytes_eq f.name k ≡ false → value_of f (object (put k v ms)) ≡ value_of f (object ms)
 value-other f k v ms other = ap (λ (o : Option Data). either o f.default) (get_member-put_other f.name k v ms (apart f.name k other))
 
@@ -21,7 +21,7 @@ held-other f k v ms other = ap (λ (o : Option Data). unwrap_or o null) (value-o
 pub held-here : (f : Field) (v : Data) (ms : Members) → held f (object (put f.name v ms)) ≡ v
 held-here f v ms = ap (λ (o : Option Data). unwrap_or (either o f.default) null) (get_member-put f.name v ms)
 
--- the field has another name, or the value has no fault as what stands at it
+-- the field has another name, or the value has no fault as what is at it
 abbrev pub FitsAt : List Step → List ℕ → Data → Field → Type 0
 FitsAt path k v f = (bytes_eq f.name k ≡ false) ⊎ ((k ≡ f.name) × (f.kind (then_named path f.name) v ≡ []))
 

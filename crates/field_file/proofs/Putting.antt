@@ -16,7 +16,7 @@ pub items-append : (xs ys : List Data) → items_of (xs ++ ys) ≡ both (items_o
 items-append [] ys = refl
 items-append (x ∷ xs) ys = ap (item x) (items-append xs ys)
 
--- calls that are put behind what stood at the name
+-- calls that are put after what was at the name
 pub inputs-put : (calls : List Call) (ms mid new : Members) (old : Option Data) (was now : List Data) → old ≡ get_member (codes "inputs") ms → mid ≡ put (codes "inputs") null ms
     → items_of was ≡ items_in (unwrap_or (either old (Some (array no_items))) null) → now ≡ was ++ map call_value calls → new ≡ put (codes "inputs") (array (items_of now)) mid
     → object new ≡ with_inputs calls (object ms)

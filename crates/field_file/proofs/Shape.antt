@@ -72,7 +72,7 @@ member-put-depth name v (string s) most h k = k
 member-put-depth name v (array ds) most h k = k
 member-put-depth name v (object ms) most h k = let inner : members_depth ms ≤ most = omega (arith, k) in let low = low-put name v ms most h inner in omega (arith, low)
 
--- what stands at a name is less deep than the object
+-- what is at a name is less deep than the object
 pub below-object : (name : List ℕ) (d v : Data) → Some v ≡ get name d → suc (depth v) ≤ depth d
 below-object name null v e = absurd (cc)
 below-object name (boolean b) v e = absurd (cc)

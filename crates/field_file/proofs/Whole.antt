@@ -103,6 +103,6 @@ levels-stay f period rule n =
 pub result-told : (d : Data) (text : List ℕ) → depth d ≤ max_depth → faults (result_of d) ≡ [] → text ≡ result_text d → IsTextOf text (result_of d) → TellsOf d text
 result-told d text nests e whole is = record { whole = whole; read = (result_of d, is.reads (result-shallow d nests), e, refl); levels = levels-stay (field_of d) }
 
--- where the scenario stands
+-- where the scenario is
 there : (d : Data) (s : Data) → get (codes "scenario") d ≡ Some s → held scenario d ≡ s
 there d s e = ap (λ (o : Option Data). unwrap_or (either o None) null) e

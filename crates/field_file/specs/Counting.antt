@@ -11,7 +11,7 @@ use Rattle.field_file.specs.Schedule.{Counted, is_counted, count_of, level_after
 abbrev pub kept : ℕ → ℕ
 kept n = min n 4294967295
 
--- the table has the volumes of the sections 1 to 8 in each of so many periods, from these edges
+-- the table has the volumes of the sections 1 to 8 in each of that many periods, from these edges
 abbrev pub HasVolumes : List ℕ → Counted → ℕ → List Edge → Type 0
 HasVolumes table c periods edges =
     (n section : ℕ) → n < periods → 1 ≤ section → section ≤ 8 → get_or table (n * 8 + (section - 1)) 0 ≡ kept (count_of (is_counted c section n) edges)
@@ -31,7 +31,7 @@ pub record LevelsFit (levels : List ℕ) (rules : List RuleContent) : Type 0 whe
   pub count : length levels ≡ length rules
   pub each : (k l : ℕ) (r : RuleContent) → k < length rules → get_or levels k l ≤ length (get_or rules k r).steps
 
--- and these are their levels after so many periods
+-- and these are their levels after that many periods
 abbrev pub AreLevels : List ℕ → Counted → List RuleContent → ℕ → Type 0
 AreLevels levels c rules n = (k l : ℕ) (r : RuleContent) → k < length rules → get_or levels k l ≡ level_after c (get_or rules k r) n
 

@@ -1,4 +1,4 @@
--- What is told of a field file: the text of its result, or its first fault.
+-- What is reported of a field file: the text of its result, or its first fault.
 use Rattle.std.specs.Prelude.{ℕ, suc, ◌≡◌, ◌↔◌, ◌+◌, List, [], ◌∷◌, ◌++◌, length, codes, Option, Some, None, option_map}
 use Rattle.serde_json.specs.Data.{Data}
 use Rattle.scenario_data.specs.declared.refusal.Refusal.{Refusal}
@@ -60,7 +60,7 @@ pub record TellsOf (d : Data) (text : List ℕ) : Type 0 where
 abbrev pub HasResult : List ℕ → Type 0
 HasResult bytes = (d : Data) × Reads bytes d × (result_faults d ≡ [])
 
--- the text tells the result of the field file that the bytes are
+-- the text gives the result of the field file that the bytes are
 abbrev pub TellsResult : List ℕ → List ℕ → Type 0
 TellsResult bytes text = (d : Data) × Reads bytes d × (result_faults d ≡ []) × TellsOf d text
 

@@ -35,12 +35,12 @@ count_of test (e ∷ edges) = (if test e then e.count else 0) + count_of test ed
 abbrev pub volume : Counted → ℕ → ℕ → ℕ
 volume c section n = count_of (is_counted c section n) c.edges
 
--- the level of a rule's section after so many periods
+-- the level of a rule's section after that many periods
 abbrev pub level_after : Counted → RuleContent → ℕ → ℕ
 level_after c rule zero = 0
 level_after c rule (suc n) = level rule.steps (level_after c rule n) (volume c rule.section n)
 
--- the pattern of a rule at a level, and after so many periods
+-- the pattern of a rule at a level, and after that many periods
 abbrev pub pattern_at : RuleContent → ℕ → ℕ
 pattern_at rule zero = rule.base
 pattern_at rule (suc i) = (step_to rule.steps i).pattern
@@ -56,7 +56,7 @@ entry_at second rule pattern = record { second = second; section = rule.section;
 abbrev pub base_entries : ℕ → List RuleContent → List Entry
 base_entries second rules = map (λ rule. entry_at second rule rule.base) rules
 
--- the entry of a rule behind period n, where its pattern is another than before this period
+-- the entry of a rule after period n, where its pattern differs from that before this period
 abbrev pub change_of : Counted → ℕ → ℕ → RuleContent → List Entry
 change_of c second n rule =
     if pattern_after c rule (suc n) == pattern_after c rule n then [] else entry_at second rule (pattern_after c rule (suc n)) ∷ []
@@ -70,7 +70,7 @@ changes c second n (rule ∷ rules) = change_of c second n rule ++ changes c sec
 abbrev pub second_of : ScenarioContent → ℕ → ℕ
 second_of s round = master_clock s round / 10
 
--- the entries up to the first round behind n periods
+-- the entries up to the first round after n periods
 abbrev pub entries_behind : ScenarioContent → Counted → List RuleContent → ℕ → List Entry
 entries_behind s c rules zero = base_entries (second_of s 1) rules
 entries_behind s c rules (suc n) = entries_behind s c rules n ++ changes c (second_of s (suc n * c.period + 1)) n rules

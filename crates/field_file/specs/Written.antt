@@ -1,5 +1,5 @@
--- The result of a field file as it is written, a JSON value (RFC 8259): its scenario, with the bank's calls behind the inputs, and, where
--- patterns follow the traffic, with the master's schedule.
+-- The result of a field file as it is written, a JSON value (RFC 8259): its scenario, with the bank's calls after the
+-- inputs, and, where patterns follow the traffic, with the master's schedule.
 use Rattle.std.specs.Prelude.{ℕ, List, [], ◌∷◌, ◌++◌, map, codes, Option, Some, None, option_map}
 use Rattle.serde_json.specs.Data.{unsigned, Data, boolean, number, object, no_members, member}
 use Rattle.serde_json.specs.View.{items_of}
@@ -13,7 +13,7 @@ use Rattle.detector_bank.specs.Lists.{calls_until, in_order, edges_until}
 use Rattle.field_read.specs.Content.{RespondContent, FieldContent, field_of}
 use Rattle.field_file.specs.Schedule.{Counted, entries}
 
--- a call that begins or ends, as an input: a vehicle detector that goes on or off
+-- a call that begins or ends, as an input: a vehicle detector that turns on or off
 abbrev pub call_value : Call → Data
 call_value call =
     object
@@ -28,7 +28,7 @@ entry_value entry =
     (member (codes "pattern") (number (unsigned entry.pattern))
     (member (codes "second") (number (unsigned entry.second)) (member (codes "section") (number (unsigned entry.section)) no_members)))
 
--- a scenario with calls behind its inputs
+-- a scenario with calls after its inputs
 abbrev pub with_inputs : List Call → Data → Data
 with_inputs calls = more_inputs (items_of (map call_value calls))
 

@@ -1,5 +1,5 @@
-//! The text of a result from the parts of its scenario's text, without a tree of it: the calls go behind the text of the inputs one by
-//! one.
+//! The text of a result from the parts of its scenario's text, without a tree of it: the calls go after the text of the
+//! inputs one by one.
 
 ghost use Rattle.std.specs.Prelude.{◌≡◌, option_map, IfOk, OnOk};
 ghost use Rattle.serde_json.specs.Data.{Data};
@@ -15,7 +15,7 @@ use scenario_file::ScenarioText;
 use sig_types::NoMemory;
 use std::alloc::Global;
 
-/// Adds calls behind the inputs.
+/// Adds calls after the inputs.
 fn add_calls(alloc: Global, text: &mut ScenarioText<'_>, calls: &Vec<Call>) -> Result<(), NoMemory>
     ensures { OnOk result ((s : Data) → Writes text.old s → Writes text.new (with_inputs calls.now.items s)) }
 {

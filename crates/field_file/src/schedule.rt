@@ -112,7 +112,7 @@ fn follow_all(
     Ok(())
 }
 
-/// The first round behind period `n`.
+/// The first round after period `n`.
 fn round_behind(period: u32, n: u32, rounds: u32) -> u32
     requires some { 0 < period }
     requires behind { n < (rounds - 1) / period }

@@ -143,9 +143,9 @@ fn told_whole(alloc: Global, bytes: &[u8]) -> Result<Vec<u8>, ReadFail>
     }
 }
 
-/// What a right field file says, read in parts, or the first fault of another, both in little memory. A try that reads all of a file
-/// finds a fault across its lists. Any other is looked for before the second try: where one is found, no names are counted. Want of
-/// memory stands also for what none of these ways tells.
+/// What a right field file says, read in parts, or the first fault of another, both in little memory. A try that reads
+/// all of a file finds a fault across its lists. Any other is looked for before the second try: where one is found, no
+/// names are counted. Lack of memory is also the answer for what none of these ways says.
 fn read_in_parts<'a>(alloc: Global, bytes: &'a [u8]) -> Result<Listed<'a>, ReadFail>
     ensures ok { IfOk result (λ l. (d : Data) × Reads bytes.now d × (file_faults d ≡ []) × (field_content l.field ≡ field_of d) × Writes l.text (held scenario d)) }
     ensures refused { IfErr result (λ fail. OnRefusal fail (IsFirstFieldFault bytes.now)) }
@@ -161,9 +161,10 @@ fn read_in_parts<'a>(alloc: Global, bytes: &'a [u8]) -> Result<Listed<'a>, ReadF
     listed_again(alloc, bytes)
 }
 
-/// The result of a field file as a scenario's compact text and a newline: the calls of its bank behind the inputs and, where patterns
-/// follow the traffic, the schedule that counted traffic gives. The refusal is the first fault in the order of the checks: those of
-/// the file, then more than 1,000,000 inputs, more than 1,000 entries, and more than 16,777,216 bytes of the result.
+/// The result of a field file as a scenario's compact text and a newline: the calls of its bank after the inputs and,
+/// where patterns follow the traffic, the schedule that counted traffic gives. The refusal is the first fault in the
+/// order of the checks: those of the file, then more than 1,000,000 inputs, more than 1,000 entries, and more than
+/// 16,777,216 bytes of the result.
 pub fn respond(alloc: Global, bytes: &[u8]) -> Result<Vec<u8>, ReadFail>
     ensures told { IfOk result (λ text. TellsResult bytes.now text.items) }
     ensures refused { IfErr result (λ fail. OnRefusal fail (IsFirstResultFault bytes.now)) }

@@ -24,7 +24,7 @@ pub(crate) struct Traffic {
     pub schedule: Option<Vec<Entry>>,
 }
 
-/// Refuses more than so many at a name.
+/// Refuses more than that many at a name.
 pub(crate) fn at_most(alloc: Global, name: &str, count: u64, most: u64) -> Result<(), ReadFail>
     ensures { Answers result (fault_at (Named name.now ∷ []) (within 0 most count)) (λ _. count ≤ most) }
 {

@@ -23,7 +23,7 @@ fn section_of(scenario: &Scenario, cabinet: u32) -> u8
     }
 }
 
-/// The period in which a round lies, where periods have so many rounds.
+/// The period in which a round lies, where periods have that many rounds.
 pub(crate) fn period_of(period: u32, round: u32) -> u32
     requires { 0 < period }
     ensures { result ≡ period_of period round }
@@ -41,7 +41,8 @@ fn add_at(table: &mut Vec<u32>, place: usize, count: u32)
     table[place] = table[place].saturating_add(count);
 }
 
-/// Counts an edge into the table of so many periods, where it is of one of the eight sections and of a period of the table.
+/// Counts an edge into the table of that many periods, where it is of one of the eight sections and of a period of the
+/// table.
 fn count_edge(table: &mut Vec<u32>, scenario: &Scenario, period: u32, periods: u32, edge: Edge)
     requires some { 0 < period }
     requires count { length table.old.items ≡ periods * 8 }
@@ -64,7 +65,7 @@ fn count_edge(table: &mut Vec<u32>, scenario: &Scenario, period: u32, periods: u
     add_at(table, place, edge.count);
 }
 
-/// The volumes of the sections 1 to 8 in each of so many periods, from edges: eight numbers for each period.
+/// The volumes of the sections 1 to 8 in each of that many periods, from edges: eight numbers for each period.
 pub(crate) fn volumes_of(
     alloc: Global,
     scenario: &Scenario,

@@ -28,7 +28,7 @@ fn entry_in(alloc: Global, entry: &Entry) -> Result<Value, AllocError>
     json!(in alloc; {"pattern": entry.pattern, "second": entry.second, "section": entry.section})
 }
 
-/// Puts calls behind the values of a list.
+/// Puts calls after the values of a list.
 fn push_calls(alloc: Global, values: &mut Vec<Value>, calls: &Vec<Call>) -> Result<(), NoMemory>
     ensures { OnOk result (map view values.new.items ≡ map view values.old.items ++ map call_value calls.now.items) }
 {
@@ -71,7 +71,7 @@ fn values_of(alloc: Global, value: Option<Value>) -> Vec<Value>
     }
 }
 
-/// Puts calls behind the inputs of a scenario.
+/// Puts calls after the inputs of a scenario.
 fn put_inputs(
     alloc: Global,
     members: &mut Map<String, Value>,
@@ -127,7 +127,7 @@ fn put_traffic(
     }
 }
 
-/// A scenario with these calls behind its inputs, and with this schedule, if there is one.
+/// A scenario with these calls after its inputs, and with this schedule, if there is one.
 pub(crate) fn result_in(
     alloc: Global,
     scenario: Value,

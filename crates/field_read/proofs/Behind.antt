@@ -1,4 +1,4 @@
--- The first fault of a field of an object, behind fields without any.
+-- The first fault of a field of an object, after fields without any.
 use Rattle.std.proofs.Common.{◌≡◌, List, [], ◌∷◌, ◌++◌, Result, Ok, Err, IsErrAnd, refl, sym, subst}
 use Rattle.serde_json.specs.Data.{Data}
 use Rattle.scenario_data.specs.declared.refusal.ReadFail.{ReadFail}
@@ -20,7 +20,7 @@ behind fail path d before after f clean h =
     rw clean (refuses_more fail (field_faults path d f) (fields_faults path d after) h) in
     subst (λ (causes : List Cause). Refuses fail causes) (sym (both-fields path d before (f ∷ after))) first
 
--- the first fault of a field behind others without any is that of the object, where its names are known
+-- the first fault of a field after others without any is that of the object, where its names are known
 pub refused-at : (fail : ReadFail) (shape : Shape) (path : List Step) (d : Data) (before after : List Field) (f : Field) → shape.fields ≡ before ++ f ∷ after
     → names_faults (names (known_fields shape d)) path d ≡ [] → fields_faults path d before ≡ [] → Refuses fail (field_faults path d f) → Refuses fail (object_of shape path d)
 refused-at fail shape path d before after f is known clean h =

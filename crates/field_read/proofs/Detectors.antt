@@ -30,7 +30,7 @@ marks-next old new bank i d within is more before = λ c n p q.
     more c n p q ∙ ap (λ (b : Bool). b || ((d.cabinet == c) && (d.detector == n))) (before c n p q) ∙ sym (has-more (take i bank) d c n)
     ∙ ap (λ (xs : List Detector). has_detector xs c n) (sym longer)
 
--- the mark of a detector tells whether it stands before
+-- the mark of a detector says whether it is before
 pub bank-test : (marks : List Bool) (bank : List Detector) (i : ℕ) (d : Detector) (b : Bool) → i < length bank → d ≡ get_or bank i d → d.cabinet ≤ 64 → d.detector ≤ 64
     → Marks marks (take i bank) → b ≡ get_or marks (d.cabinet * 65 + d.detector) false → bank_fit bank i ≡ (if b then Wrong else Fits)
 bank-test marks bank i d b within is p q so test =
@@ -38,7 +38,7 @@ bank-test marks bank i d b within is p q so test =
     let told : has_detector (take i bank) d.cabinet d.detector ≡ b = sym (test ∙ so d.cabinet d.detector p q) in
     ap (λ (e : Detector). if has_detector (take i bank) e.cabinet e.detector then Wrong else Fits) same ∙ ap (λ (x : Bool). if x then Wrong else Fits) told
 
--- the mark of a pulse's detector tells whether it stands in the bank
+-- the mark of a pulse's detector says whether it is in the bank
 pub pulse-test : (marks : List Bool) (bank : List Detector) (pulses : List Pulse) (i : ℕ) (s : Pulse) (b : Bool) → i < length pulses → s ≡ get_or pulses i s → s.cabinet ≤ 64 → s.detector ≤ 64
     → Marks marks bank → b ≡ get_or marks (s.cabinet * 65 + s.detector) false → pulse_fit bank pulses i ≡ (if b then Fits else Wrong)
 pulse-test marks bank pulses i s b within is p q so test =
@@ -46,7 +46,7 @@ pulse-test marks bank pulses i s b within is p q so test =
     let told : has_detector bank s.cabinet s.detector ≡ b = sym (test ∙ so s.cabinet s.detector p q) in
     ap (λ (t : Pulse). if has_detector bank t.cabinet t.detector then Fits else Wrong) same ∙ ap (λ (x : Bool). if x then Fits else Wrong) told
 
--- what is read of a list stands where each of it does
+-- what is read of a list is where each of it does
 pub detector-here : (bank : List Detector) (i : ℕ) (d : Detector) → i < length bank → d ≡ get_or bank i d → BankPlaced bank → (d.cabinet ≤ 64) × (d.detector ≤ 64)
 detector-here bank i d within is placed = subst (λ (e : Detector). (e.cabinet ≤ 64) × (e.detector ≤ 64)) (sym is) (placed i d within)
 

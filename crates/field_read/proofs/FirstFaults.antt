@@ -53,7 +53,7 @@ name-first fail (object ms) h = refuses_more fail _ _ (refuses_more fail _ _ h)
 pub name-refused : (fail : ReadFail) (d v : Data) → v ≡ cut Outer d → Refuses fail (names_faults known [] v) → Refuses fail (file_faults d)
 name-refused fail d v is h = name-first fail d (refuses-same fail (names_faults known [] v) (names_faults known [] d) (names-in d v is) h)
 
--- null in place of a scenario has the fault of a scenario that doesn't stand
+-- null in place of a scenario has the fault of a scenario that isn't
 at-scenario : (fail : ReadFail) (o : Option Data) → Refuses fail (map inner_cause (faults (unwrap_or (either o None) null)))
     → Refuses fail (faults_of inner_scenario (then_named [] (codes "scenario")) (either o None))
 at-scenario fail None h = refuses-same fail (map inner_cause (faults null)) (fault_at (then_named [] (codes "scenario")) Wrong) refl h
@@ -67,13 +67,13 @@ scenario-first fail d v is clean h =
     let all = two-parts d (no-first (names_faults known [] d) (sym (names-in d v is) ∙ ap first_cause clean)) in
     refuses_more fail _ _ (subst (λ (causes : List Cause). Refuses fail causes) (sym all) (at-first fail (field_faults [] d scenario) _ here))
 
--- ---- behind a scenario without faults
+-- ---- after a scenario without faults
 
 scenario-none : (o : Option Data) → faults (unwrap_or (either o None) null) ≡ [] → faults_of inner_scenario (then_named [] (codes "scenario")) (either o None) ≡ []
 scenario-none None e = absurd (cc)
 scenario-none (Some d) e = ap (map inner_cause) e
 
--- the first fault of what stands beside it is that of the file
+-- the first fault of what is next to it is that of the file
 beside-first : (fail : ReadFail) (d v : Data) → v ≡ cut Outer d → names_faults known [] v ≡ [] → faults (held scenario d) ≡ []
     → Refuses fail (fields_faults [] d (traffic_fields (rounds_run d) (cabinets_run d))) → Refuses fail (file_faults d)
 beside-first fail d v is clean none h =

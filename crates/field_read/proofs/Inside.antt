@@ -1,4 +1,4 @@
--- What stands in a sorted object is sorted, and nests no deeper.
+-- What is in a sorted object is sorted, and nests no deeper.
 use Rattle.std.proofs.Common.{◌≡◌, ◌≤◌, ℕ, max, List, Some, Ordering, Less, Equal, Greater, nat_cmp, subst, arith}
 use Rattle.std.specs.Cmp.Lexicographic.{slice_cmp}
 use Rattle.std.specs.Ordering.{match_ordering}

@@ -1,4 +1,4 @@
--- What is known of pulses that are judged one at a time, and of what stands at their name.
+-- What is known of pulses that are judged one at a time, and of what is at their name.
 use Rattle.std.proofs.Common.{◌≡◌, ◌≤◌, ◌<◌, ℕ, ◌+◌, List, [], ◌++◌, codes, None, is_some, true, false, Result, Ok, Err, bytes_eq, refl, sym, ap, ◌∙◌, subst, arith}
 use Rattle.std.specs.Result.{result_err}
 use Rattle.std.proofs.lemmas.Slice.Eq.{bytes_eq-Decides}
@@ -52,7 +52,7 @@ judged-none e = record {
   told = λ k. (refl, tt);
 }
 
--- past a million, behind one at fault, and where it is judged
+-- past a million, after one at fault, and where it is judged
 pub judged-past : (e : Extent) (judged : Judged) (ds : Items) (d : Data) → 1000000 < judged.count → IsJudged e judged ds → IsJudged e judged (both ds (item d no_items))
 judged-past e judged ds d past j = record {
   counted = counted-past 1000000 judged.count ds d past j.counted;
@@ -77,7 +77,7 @@ judged-next e old ds d answer low none judged j = record {
       (tells-next 1000000 old.refusal old.count (old.count + 1) (each_pulse e ds) _ (Unit {0}) (Unit {0}) answer low none (λ _. judged) j.told);
 }
 
--- ---- what stands as the pulses
+-- ---- what is given as the pulses
 
 pub too-many : (e : Extent) (count : ℕ) (ds : Items) (fail : ReadFail) → 1000000 < count → Counted 1000000 count (items_len ds) → Refuses fail (fault_at here Beyond)
     → Refuses fail ((pulses_field e).kind here (array ds))
@@ -105,7 +105,7 @@ list-answered e judged ds answer low is j = at answer (subst (λ o. TellsUpTo 10
 pub no-list : (e : Extent) (d : Data) (fail : ReadFail) → IsNoList d → Refuses fail (fault_at here Wrong) → Refuses fail ((pulses_field e).kind here d)
 no-list e d fail bare h = subst (Refuses fail) (sym (list-wrong 0 1000000 (pulse_kind e) here d bare)) h
 
--- ---- what stands at the name
+-- ---- what is at the name
 
 put-here : (f : Field) (name : List ℕ) (d : Data) (ms : Members) → bytes_eq name f.name ≡ true → field_faults [] (object (put name d ms)) f ≡ f.kind (then_named [] f.name) d
 put-here f name d ms is =

@@ -156,7 +156,7 @@ is-field = record { opens = refl; closed = refl }
 rounds-kept : (d : Data) → rounds_run (cut Field d) ≡ rounds_run d
 rounds-kept = held-cut Field is-field scenario refl round_count rounds-same
 
--- the cabinets in the scenario that stands there
+-- the cabinets in the scenario that is there
 abbrev inner_cabinets : Data → ℕ
 inner_cabinets d = cabinets_in (held scenario d)
 
@@ -250,7 +250,7 @@ module _ (bytes : List ℕ) (d v : Data) (reads : Reads bytes d) (is : v ≡ cut
   field-refused (Refused refusal) h = named refusal (subst (λ o. Names refusal o) same h)
   field-refused NoMemory h = tt
 
--- bytes that are no JSON have that as their first fault
+-- bytes that are not JSON have that as their first fault
 pub no-field : (bytes : List ℕ) (fail : ReadFail) → OnRefusal fail (IsNoText bytes) → OnRefusal fail (IsFirstFieldFault bytes)
 no-field bytes (Refused refusal) none = subst (IsFirstFieldFault bytes) (sym none.0) none.1
 no-field bytes NoMemory none = tt

@@ -49,7 +49,7 @@ cabinet-within fields cabinets path (object ms) e low =
     none-both unknown (fields_faults path d (cabinet_number cabinets ∷ fields) ++ []) a.0
     (none-both (fields_faults path d (cabinet_number cabinets ∷ fields)) [] (none-both (field_faults path d (cabinet_number cabinets)) behind first f.1) refl)
 
--- a detector is of one of so many cabinets, a pulse of one of so many rounds too
+-- a detector is of one of that many cabinets, a pulse of one of that many rounds too
 abbrev pub detector_within : ℕ → Detector → Bool
 detector_within cabinets d = nat_le d.cabinet cabinets
 

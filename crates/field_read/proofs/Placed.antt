@@ -1,4 +1,4 @@
--- Where the detectors and pulses of a field file without faults at its names stand.
+-- The names at which a field file without faults has its detectors and pulses.
 use Rattle.std.proofs.Common.{◌≡◌, ◌≤◌, ◌<◌, ◌+◌, ℕ, zero, suc, List, [], ◌∷◌, length, map, get_or, codes, refl, arith}
 use Rattle.serde_json.specs.Data.{Data, Items, no_items, item}
 use Rattle.scenario_data.specs.Causes.{Cause}

@@ -1,4 +1,4 @@
--- What stands at a place of rules that were read, and equal numbers as a test tells them.
+-- What is at a place of rules that were read, and equal numbers as a test gives them.
 use Rattle.std.proofs.Common.{◌≡◌, ◌<◌, ◌∙◌, ◌==◌, ℕ, Bool, true, false, List, length, map, get_or, refl, sym, ap}
 use Rattle.std.proofs.lemmas.List.{get_or-map}
 use Rattle.std.proofs.lemmas.Bool.Decides.{Decides-eqb}

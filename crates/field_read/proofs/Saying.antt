@@ -31,7 +31,7 @@ use Rattle.field_read.proofs.Narrow.{each-narrowed, detector_within, pulse_withi
 
 -- ---- lists
 
--- what stands at the name of a list, or counts where nothing does, is the list of its items
+-- what is at the name of a list, or counts where nothing does, is the list of its items
 value-there : (o : Option Data) (ds : Items) → IsList o ds → either o (Some (array no_items)) ≡ Some (array ds)
 value-there None ds none = ap (λ es. Some (array es)) (sym none)
 value-there (Some d) ds is = ap Some is
@@ -59,7 +59,7 @@ respond-said : (found : Option Respond) (o : Option Data) → IsAt SaysRespond f
 respond-said None o none = ap (option_map respond_of) (sym none)
 respond-said (Some r) o at = ap Some at.2.said ∙ ap (option_map respond_of) (sym at.1)
 
--- ---- what stands beside the scenario
+-- ---- what is next to the scenario
 
 traffic-clean : (parts : Parts) (rounds cabinets : ℕ) (ms : Members) → PartsStand parts ms → list_all (detector_within cabinets) parts.bank.items ≡ true
     → list_all (pulse_within rounds cabinets) parts.pulses.items ≡ true → fields_faults [] (object ms) (traffic_fields rounds cabinets) ≡ []

@@ -1,4 +1,4 @@
--- What was found at the names stands there when another member is put among the members.
+-- What was found at the names is there when another member is put among the members.
 use Rattle.std.proofs.Common.{◌≡◌, ℕ, List, [], false, Option, Some, bytes_eq, length, refl, sym, ap, subst, arith}
 use Rattle.serde_json.specs.Data.{Data, array, Items, no_items, Members, put}
 use Rattle.serde_json.specs.Find.{get_member}

@@ -21,7 +21,7 @@ use Rattle.field_read.specs.Content.{FieldContent, RespondContent, rounds_run, c
 use Rattle.field_read.specs.Checks.{named_faults, across_faults, file_faults}
 use Rattle.field_read.specs.Answers.{IsFirstFieldFault}
 
--- where all names are known, the faults are those of the scenario and of what stands beside it
+-- where all names are known, the faults are those of the scenario and of what is next to it
 pub two-parts : (d : Data) → names_faults (names (known_fields (field_shape (rounds_run d) (cabinets_run d)) d)) [] d ≡ []
     → named_faults d ≡ (field_faults [] d scenario ++ fields_faults [] d (traffic_fields (rounds_run d) (cabinets_run d))) ++ []
 two-parts d e = known-object (field_shape (rounds_run d) (cabinets_run d)) [] d e

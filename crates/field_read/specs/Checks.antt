@@ -38,7 +38,7 @@ abbrev pub has_detector : List Detector → ℕ → ℕ → Bool
 has_detector [] cabinet detector = false
 has_detector (d ∷ ds) cabinet detector = ((d.cabinet == cabinet) && (d.detector == detector)) || has_detector ds cabinet detector
 
--- what stands at a place of a list
+-- what is at a place of a list
 abbrev pub detector_at : List Detector → ℕ → Detector
 detector_at bank i =
     get_or bank i (record { cabinet = 0; detector = 0; phase = 0; delay = 0; extend = 0; no_activity = 0; max_presence = 0; erratic = 0 })
@@ -49,7 +49,7 @@ pulse_at pulses i = get_or pulses i (record { round = 0; cabinet = 0; detector =
 abbrev pub rule_at : List RuleContent → ℕ → RuleContent
 rule_at rules i = get_or rules i (record { section = 0; base = 0; steps = [] })
 
--- a detector of the bank may not be one that stands before it
+-- a detector of the bank may not be one that is before it
 abbrev pub bank_fit : List Detector → ℕ → Fit
 bank_fit bank i = if has_detector (take i bank) (detector_at bank i).cabinet (detector_at bank i).detector then Wrong else Fits
 
@@ -59,7 +59,7 @@ bank_fault bank i = fault_at (detector_path i) (bank_fit bank i)
 abbrev pub bank_faults : List Detector → List Cause
 bank_faults bank = upto (bank_fault bank) (length bank)
 
--- the detector of a pulse must stand in the bank
+-- the detector of a pulse must be in the bank
 abbrev pub pulse_fit : List Detector → List Pulse → ℕ → Fit
 pulse_fit bank pulses i = if has_detector bank (pulse_at pulses i).cabinet (pulse_at pulses i).detector then Fits else Wrong
 
@@ -74,7 +74,7 @@ abbrev pub any_below : (ℕ → Bool) → ℕ → Bool
 any_below test zero = false
 any_below test (suc n) = any_below test n || test n
 
--- a section may not have a rule that stands before
+-- a section may not have a rule that is before
 abbrev pub has_section : List RuleContent → ℕ → ℕ → Bool
 has_section rules section i = (rule_at rules i).section == section
 
@@ -145,7 +145,7 @@ asked_faults s (Some r) = respond_faults s r
 abbrev pub across_faults : FieldContent → List Cause
 across_faults f = bank_faults f.bank ++ (pulse_faults f.bank f.pulses ++ asked_faults f.scenario f.respond)
 
--- the faults of the names and what stands there, those of the scenario among them
+-- the faults of the names and what is there, those of the scenario among them
 abbrev pub named_faults : Data → List Cause
 named_faults d = object_of (field_shape (rounds_run d) (cabinets_run d)) [] d
 

@@ -1,4 +1,4 @@
--- What a field file says: at each name what stands there, or else the default.
+-- What a field file says: at each name what is there, or else the default.
 use Rattle.std.specs.Prelude.{ℕ, List, map, Option, option_map}
 use Rattle.serde_json.specs.Data.{Data}
 use Rattle.serde_json.specs.Find.{get}
@@ -15,7 +15,7 @@ use Rattle.field_read.specs.declared.respond.Respond.{Respond}
 use Rattle.field_read.specs.declared.named.Field.{Field}
 use Rattle.field_read.specs.Table.{detector, delay, extend, no_activity, max_presence, erratic, up, down, pattern, section, base, steps, period, sections, respond, bank, pulses}
 
--- a section's rule, and the rules of all, apart from the memory in which their lists stand
+-- a section's rule, and the rules of all, without the memory that holds their lists
 pub record RuleContent : Type 0 where
   pub section : ℕ
   pub base : ℕ
@@ -45,7 +45,7 @@ field_content f = record {
   respond = option_map respond_content f.respond;
 }
 
--- what the objects say; the numbers of rounds and cabinets bound what may stand there, not what it says
+-- what the objects say; the numbers of rounds and cabinets bound what is allowed there, not what it says
 abbrev pub detector_of : ℕ → Data → Detector
 detector_of cabinets d = record {
   cabinet = number_at (cabinet_number cabinets) d;

@@ -29,7 +29,7 @@ pub record IsJudged (e : Extent) (judged : Judged) (ds : Items) : Type 0 where
   pub counted : Counted 1000000 judged.count (items_len ds)
   pub told : TellsUpTo 1000000 judged.refusal judged.count (each_pulse e ds) (Unit {0})
 
--- the answer to a value that stands as the pulses
+-- the answer to a value that is given as the pulses
 abbrev pub IsListAnswer : Extent → Result (Unit {0}) ReadFail → Data → Type 0
 IsListAnswer e answer d = Answers answer ((pulses_field e).kind (list_path (codes "pulses")) d) (λ _. Unit {0})
 

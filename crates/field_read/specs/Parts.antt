@@ -17,7 +17,7 @@ use Rattle.field_read.specs.declared.found.Found.TheVariants.{Bank, Pulses}
 use Rattle.field_read.specs.declared.parts.Parts.{Parts}
 use Rattle.field_read.specs.Lists.{Holds, name_of}
 
--- the names that may stand there
+-- the names that are allowed there
 abbrev pub known : List (List ℕ)
 known = codes "scenario" ∷ codes "bank" ∷ codes "pulses" ∷ codes "respond" ∷ []
 
@@ -32,17 +32,17 @@ pub record SaysRespond (respond : Respond) (d : Data) : Type 0 where
   pub clean : object_of respond_shape (list_path (codes "respond")) d ≡ []
   pub said : respond_content respond ≡ respond_of d
 
--- what was found at a name, if anything was, is what stands there
+-- what was found at a name, if anything was, is what is there
 abbrev pub IsAt : {A : Type 0} → (A → Data → Type 0) → Option A → Option Data → Type 0
 IsAt Says None o = o ≡ None
 IsAt Says (Some a) o = (d : Data) × (o ≡ Some d) × Says a d
 
--- the list of these items stands at a name, or nothing, where there are none
+-- the list of these items is at a name, or nothing, where there are none
 abbrev pub IsList : Option Data → Items → Type 0
 IsList None ds = ds ≡ no_items
 IsList (Some d) ds = d ≡ array ds
 
--- this was found for the list that may stand among the members
+-- this was found for the list that may be among the members
 pub record ListStands (found : Found) (ms : Members) : Type 0 where
   pub items : Items
   pub held : IsList (get_member (name_of found) ms) items

@@ -1,4 +1,4 @@
--- Where in a field file a reader stands, and what its parts say.
+-- Where in a field file a reader is, and what its parts say.
 use Rattle.std.specs.Prelude.{ℕ, ◌≡◌, ◌*◌, ◌+◌, ◌<◌, ◌≤◌, Bool, false, List, [], ◌∷◌, length, get_or, codes, option_map}
 use Rattle.serde_json.specs.Data.{Data}
 use Rattle.scenario_read.specs.Paths.{Step as PathStep, Named}
@@ -21,13 +21,13 @@ steps_of Respond = Named (codes "respond") ∷ []
 steps_of (Section i) = section_path i
 steps_of (Step i j) = step_path i j
 
--- what the names behind the scenario say, of this number of rounds and cabinets
+-- what the names after the scenario say, of this number of rounds and cabinets
 pub record SaysTraffic (traffic : Traffic) (rounds cabinets : ℕ) (d : Data) : Type 0 where
   pub bank : traffic.bank.items ≡ bank_of cabinets d
   pub pulses : traffic.pulses.items ≡ pulses_of rounds cabinets d
   pub respond : option_map respond_content traffic.respond ≡ respond_asked d
 
--- detectors and pulses that stand at one of 64 cabinets, with a number up to 64
+-- detectors and pulses that are at one of 64 cabinets, with a number up to 64
 abbrev pub BankPlaced : List BankDetector → Type 0
 BankPlaced ds = (k : ℕ) (d : BankDetector) → k < length ds → ((get_or ds k d).cabinet ≤ 64) × ((get_or ds k d).detector ≤ 64)
 

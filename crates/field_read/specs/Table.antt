@@ -1,4 +1,5 @@
--- The table of a field file's names: for each object its fields in order, each with what may stand there and its default.
+-- The table of a field file's names: for each object its fields in order, each with what is allowed there and its
+-- default.
 use Rattle.std.specs.Prelude.{ℕ, List, [], ◌∷◌, codes}
 use Rattle.serde_json.specs.Data.{unsigned, Data, number, array, object, item, no_items, member, no_members}
 use Rattle.scenario_read.specs.Kinds.{list_of}
@@ -6,7 +7,7 @@ use Rattle.scenario_read.specs.Fields.{Field, needed, optional, Shape, object_of
 use Rattle.scenario_read.specs.Table.{needed_whole, optional_list, round, cabinet_number, phase, on}
 use Rattle.scenario_checked.specs.Inside.{scenario}
 
--- a detector of the bank, in a scenario of so many cabinets
+-- a detector of the bank, in a scenario of that many cabinets
 abbrev pub detector : Field
 detector = needed_whole (codes "detector") 1 64
 
@@ -31,7 +32,7 @@ detector_shape cabinets = record {
   alternatives = [];
 }
 
--- a pulse: a detector goes on or off in a round
+-- a pulse: a detector turns on or off in a round
 abbrev pub pulse_shape : ℕ → ℕ → Shape
 pulse_shape rounds cabinets = record { fields = round rounds ∷ cabinet_number cabinets ∷ detector ∷ on ∷ []; alternatives = [] }
 
@@ -71,7 +72,7 @@ sections = needed (codes "sections") (list_of 1 8 (object_of section_shape))
 abbrev pub respond_shape : Shape
 respond_shape = record { fields = period ∷ sections ∷ []; alternatives = [] }
 
--- where it is absent, a value without faults stands for it; what that says is asked by none
+-- where it is absent, a value without faults represents it; what that says is asked by none
 abbrev pub unasked_section : Data
 unasked_section =
     object (member (codes "base") (number (unsigned 0)) (member (codes "section") (number (unsigned 1)) (member (codes "steps") (array no_items) no_members)))

@@ -109,14 +109,14 @@ fn verdict(alloc: Global, judged: Judged) -> Result<(), ReadFail>
     }
 }
 
-/// The answer to what stands as the pulses and is no list.
+/// The answer to what is given as the pulses and is not a list.
 fn no_list(alloc: Global) -> Result<(), ReadFail>
     ensures { (e : Extent) → (d : Data) → IsNoList d → IsListAnswer e result d }
 {
     Err(refuse_member(alloc, Place::Top, "pulses", Unfit::Wrong))
 }
 
-/// The answer to the reader's next value, which stands as the pulses.
+/// The answer to the reader's next value, which is given as the pulses.
 fn judge_list(
     alloc: Global,
     reader: &mut Reader<'_>,
@@ -206,8 +206,8 @@ fn judge_text(alloc: Global, bytes: &[u8], extent: Extent) -> Option<Result<(), 
     }
 }
 
-/// Judges the pulses of a field file, in a scenario of this extent: the refusal is their first fault. Want of memory stands also for what
-/// this way does not tell, as of a text that is no object.
+/// Judges the pulses of a field file, in a scenario of this extent: the refusal is their first fault. Lack of memory is
+/// also the answer for what this way does not say, as of a text that is not an object.
 pub(crate) fn judge_pulses(alloc: Global, bytes: &[u8], extent: Extent) -> Result<(), ReadFail>
     ensures { (d : Data) → Reads bytes.now d → Answers result (field_faults [] d (pulses extent.rounds extent.cabinets)) (λ _. Unit {0}) }
 {

@@ -1,7 +1,8 @@
-//! The field file (RFC 8259): a scenario, the vehicle detectors of its cabinets with their pulses, and how patterns follow the
-//! traffic, as one JSON object with the names `scenario`, `bank`, `pulses` and `respond`. Read whole, it is refused at its first
-//! fault. Read item by item, a right file takes little memory, and so does one whose first fault lies across its lists, which is refused
-//! at it; of any other nothing is said.
+//! The field file (RFC 8259): a scenario, the vehicle detectors of its cabinets with their pulses, and how patterns
+//! follow the traffic, as one JSON object with the names `scenario`, `bank`, `pulses` and `respond`. There are two ways
+//! to read it. Read as a whole, an invalid file is refused at its first fault. Read item by item, a valid file takes
+//! little memory, and so does a file whose first fault concerns several lists, which is refused at that fault; nothing
+//! is said about any other file.
 #![tactic(auto)]
 
 mod across;

@@ -22,7 +22,7 @@ use std::alloc::Global;
 /// The names of a field file.
 const NAMES: [&str; 4] = ["scenario", "bank", "pulses", "respond"];
 
-/// What the names of a field file say, of whose names so many come, where all of it is read and no name is at fault.
+/// What the names of a field file say, whose names appear this often, where all of it is read and no name is at fault.
 fn names_with<'a>(alloc: Global, bytes: &'a [u8], left: FileLeft) -> Option<Listed<'a>>
     ensures { IfSome result (λ l. (d : Data) × Reads bytes.now d × SaysNames l d) }
 {
@@ -31,7 +31,8 @@ fn names_with<'a>(alloc: Global, bytes: &'a [u8], left: FileLeft) -> Option<List
     Some(listed)
 }
 
-/// Reads a field file that is right, of whose names so many come, or finds its first fault where that lies across its lists.
+/// Reads a field file that is right, whose names appear this often, or finds its first fault where that lies across its
+/// lists.
 fn listed_with<'a>(alloc: Global, bytes: &'a [u8], left: FileLeft) -> Result<Listed<'a>, ReadFail>
     ensures ok { IfOk result (λ l. (d : Data) × Reads bytes.now d × (file_faults d ≡ []) × (field_content l.field ≡ field_of d) × Writes l.text (held scenario d)) }
     ensures refused { IfErr result (λ fail. OnRefusal fail (IsFirstFieldFault bytes.now)) }

@@ -40,7 +40,7 @@ fn mark(marks: &mut [bool; 4225], detector: &Detector)
     marks[place] = true;
 }
 
-/// The marks of a bank, refused at the first detector that stands twice.
+/// The marks of a bank, refused at the first detector that appears twice.
 pub(crate) fn marked(alloc: Global, bank: &Vec<Detector>) -> Result<[bool; 4225], ReadFail>
     requires placed { BankPlaced bank.now.items }
     ensures { Answers result (bank_faults bank.now.items) (λ marks. Marks marks bank.now.items) }

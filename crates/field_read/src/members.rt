@@ -32,7 +32,7 @@ fn known_members(
     Ok(())
 }
 
-/// Refuses what is no object, and the least name, by bytes, that is not known.
+/// Refuses what is not an object, and the least name, by bytes, that is not known.
 pub(crate) fn known_names(
     alloc: Global,
     value: &Value,
@@ -47,7 +47,7 @@ pub(crate) fn known_names(
     }
 }
 
-/// A whole number that must stand at a name.
+/// A whole number that must be at a name.
 pub(crate) fn whole_at(
     alloc: Global,
     object: &Value,
@@ -69,7 +69,7 @@ pub(crate) fn whole_at(
     }
 }
 
-/// True or false, which must stand at a name.
+/// True or false, which must be at a name.
 pub(crate) fn flag_at(
     alloc: Global,
     object: &Value,

@@ -1,5 +1,5 @@
-//! Where in a field file a value stands, how that is written, and the refusals that name it. Text is made only where a fault
-//! was found.
+//! Where in a field file a value is, how that is written, and the refusals that name it. Text is made only where a
+//! fault was found.
 
 ghost use Rattle.std.specs.Prelude.{◌≡◌, IfOk, string_bytes};
 ghost use Rattle.scenario_read.specs.Paths.{path_text, then_named};

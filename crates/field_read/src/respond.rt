@@ -136,7 +136,7 @@ pub fn respond_in(alloc: Global, object: &Value) -> Result<Respond, ReadFail>
     Ok(Respond { period, sections })
 }
 
-/// How patterns follow the traffic; nothing where nothing is said.
+/// How patterns follow the traffic; by default they don't.
 pub(crate) fn respond_at(alloc: Global, object: &Value) -> Result<Option<Respond>, ReadFail>
     ensures { Answers result (field_faults (steps_of Place.Top) (view object.now) respond) (λ r. option_map respond_content r ≡ respond_asked (view object.now)) }
 {

@@ -26,7 +26,7 @@ const RULES: [Level; 5] = [
     Level::Plain,
 ];
 
-/// Reads the scenario, of whose names so many come.
+/// Reads the scenario, whose names appear this often.
 fn scenario_member<'a>(
     alloc: Global,
     reader: &mut Reader<'_>,
@@ -80,7 +80,7 @@ impl<'a> OuterParts<'a> for Parts<'a> {
         no_parts(alloc)
     }
 
-    /// Reads what stands at the next name: gives up at one that is not known.
+    /// Reads what is at the next name: gives up at one that is not known.
     fn put_next(
         &mut self,
         alloc: Global,

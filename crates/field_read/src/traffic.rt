@@ -1,4 +1,4 @@
-//! What a field file says beside its scenario.
+//! What a field file says in addition to its scenario.
 
 ghost use Rattle.serde_json.specs.View.{view};
 ghost use Rattle.scenario_read.specs.Fields.{fields_faults};
@@ -23,7 +23,7 @@ pub(crate) struct Traffic {
     pub respond: Option<Respond>,
 }
 
-/// What stands beside a scenario with so many rounds and cabinets.
+/// What is next to a scenario with that many rounds and cabinets.
 pub(crate) fn traffic_in(
     alloc: Global,
     object: &Value,

@@ -18,7 +18,7 @@ pub struct Listed<'a> {
     pub text: ScenarioText<'a>,
 }
 
-/// Whether each detector is of one of so many cabinets.
+/// Whether each detector is of one of that many cabinets.
 fn bank_within(bank: &Vec<Detector>, cabinets: usize) -> bool
     ensures { result ≡ list_all (λ d. nat_le d.cabinet cabinets) bank.now.items }
 {

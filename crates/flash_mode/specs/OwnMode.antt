@@ -14,8 +14,9 @@ use Rattle.sig_tables.specs.Splits.{coordinated_phases}
 abbrev pub CountsStart : ℕ → List Moment → Type 0
 CountsStart count past = is_start (last_frame past).mode ≡ true → count ≡ start_run past
 
--- the mode that start-up and flash give after a frame of this mode, with pattern n in command: Start lasts 60 frames, of which
--- so many have been, and is followed by flash where it is commanded; flash lasts as long as it is, and is followed by Start
+-- the mode that start-up and flash give after a frame of this mode, with pattern n in command: Start lasts 60 frames,
+-- of which that many have been, and is followed by flash where it is commanded; flash lasts as long as it is, and is
+-- followed by Start
 abbrev pub own_mode : Mode → ℕ → ℕ → Option Mode
 own_mode Start count n = if nat_le 60 count then (if n == flash_command then Some Flash else None) else Some Start
 own_mode Flash count n = if n == flash_command then Some Flash else Some Start

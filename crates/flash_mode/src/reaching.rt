@@ -9,7 +9,7 @@ ghost use Rattle.flash_mode.specs.OwnMode.{AreSought};
 
 use sig_types::{Colour, Mode};
 
-/// Whether a phase is Green among sixteen. A phase of 0 is read as 1, and what is no phase counts as Green.
+/// Whether a phase is Green among sixteen. A phase of 0 is read as 1, and what is not a phase counts as Green.
 fn is_green(veh: &[Colour; 16], phase: u8) -> bool
     ensures { result ≡ same_colour (colour_in veh.now phase) Green }
 {

@@ -1,4 +1,4 @@
--- Lists of what is made, one behind the other: a law of each item, and what they become as JSON items.
+-- Lists of what is made, one after the other: a law of each item, and what they become as JSON items.
 use Rattle.std.proofs.Common.{◌≡◌, ℕ, zero, suc, ◌+◌, ◌<◌, ◌≤◌, List, [], ◌∷◌, ◌++◌, length, map, take, get_or, Vec, Global, refl, sym, ap, ◌∙◌, arith, add-one}
 use Rattle.std.proofs.lemmas.List.{map-append, length-append, take_more, take_all}
 use Rattle.std.proofs.lemmas.Bool.{le-leb}

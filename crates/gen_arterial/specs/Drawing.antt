@@ -10,7 +10,7 @@ use Rattle.gen_arterial.specs.Draws.{state_after}
 use Rattle.gen_arterial.specs.Generated.{each_below, offset, correction, load_round, load_maximum, cabinet_with, load_with, all_inputs, all_faults}
 use Rattle.gen_arterial.specs.Written.{cabinet_value, load_value}
 
--- so many draws of a seed were made
+-- that many draws of a seed were made
 abbrev pub IsAt : Draws → ℕ → ℕ → Type 0
 IsAt draws seed place = draws.state ≡ state_after seed place
 
@@ -24,7 +24,7 @@ setup_made seed rounds i = record {
   load_maximum = load_maximum seed i;
 }
 
--- what happens in so many rounds
+-- what happens in that many rounds
 pub record AreRounds (made : Rounds) (seed cabinets done : ℕ) : Type 0 where
   pub inputs : made.inputs.items ≡ all_inputs seed cabinets done
   pub faults : made.faults.items ≡ all_faults seed cabinets done

@@ -1,7 +1,7 @@
 -- The numbers that a seed draws: a linear congruential generator modulo 2^31, of whose state the low 16 bits are left out.
 use Rattle.std.specs.Prelude.{ℕ, zero, suc, ◌+◌, ◌*◌, ◌/◌, ◌%◌}
 
--- the state after so many draws
+-- the state after that many draws
 abbrev pub state_after : ℕ → ℕ → ℕ
 state_after seed zero = seed % 2147483648
 state_after seed (suc places) = (1103515245 * state_after seed places + 12345) % 2147483648

@@ -55,8 +55,8 @@ cabinet_made seed i = cabinet_with (offset seed i) (correction seed i)
 abbrev pub load_made : ℕ → ℕ → ℕ → LoadContent
 load_made seed rounds i = load_with (load_round seed rounds i) (1 + i) (load_maximum seed i)
 
--- the inputs of the cabinet in a round, by the three draws from a place on: a detector goes on or off, and the push button of phase 2
--- is pressed now and then
+-- the inputs of the cabinet in a round, by the three draws from a place on: a detector turns on or off, and the push
+-- button of phase 2 is pressed now and then
 abbrev pub detector_input : ℕ → ℕ → ℕ → ℕ → Input
 detector_input seed round place i =
     record { round = round; cabinet = 1 + i; field = Veh (1 + drawn seed place 8) (drawn seed (place + 1) 2 == 1) }
@@ -87,16 +87,16 @@ abbrev pub round_faults : ℕ → ℕ → ℕ → ℕ → List Fault
 round_faults seed cabinets round place =
     if loses_poll seed place then lost_poll round (1 + drawn seed (place + 1) cabinets) ∷ [] else []
 
--- the first place behind these draws
+-- the first place after these draws
 abbrev pub place_behind : ℕ → ℕ → ℕ
 place_behind seed place = if loses_poll seed place then place + 2 else place + 1
 
--- the first place of the draws of a round, after so many rounds
+-- the first place of the draws of a round, after that many rounds
 abbrev pub round_place : ℕ → ℕ → ℕ → ℕ
 round_place seed cabinets zero = 4 * cabinets
 round_place seed cabinets (suc done) = place_behind seed (round_place seed cabinets done + 3 * cabinets)
 
--- the inputs and the lost polls of so many rounds
+-- the inputs and the lost polls of that many rounds
 abbrev pub all_inputs : ℕ → ℕ → ℕ → List Input
 all_inputs seed cabinets zero = []
 all_inputs seed cabinets (suc done) =
@@ -107,7 +107,7 @@ all_faults seed cabinets zero = []
 all_faults seed cabinets (suc done) =
     all_faults seed cabinets done ++ round_faults seed cabinets (1 + done) (round_place seed cabinets done + 3 * cabinets)
 
--- the master polls in each round, and commands pattern 1 anew in each sixtieth
+-- the master polls in each round, and commands pattern 1 again in each sixtieth
 abbrev pub master_made : MasterContent
 master_made = record {
   clock = 0;

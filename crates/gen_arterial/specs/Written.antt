@@ -1,5 +1,5 @@
--- The generated scenario as it is written, a JSON value (RFC 8259), and whole. The names of each object stand in the order of their
--- bytes, and are the same whatever is drawn.
+-- The generated scenario as it is written, a JSON value (RFC 8259), and whole. The names of each object are in the
+-- order of their bytes, and are the same whatever is drawn.
 use Rattle.std.specs.Prelude.{ℕ, ◌+◌, ◌≤◌, ◌*◌, List, [], ◌∷◌, ◌++◌, map, codes}
 use Rattle.serde_json.specs.Data.{unsigned, Data, boolean, number, string, array, object, Items, no_items, item, Members, no_members, member}
 use Rattle.serde_json.specs.Written.{compact_text}

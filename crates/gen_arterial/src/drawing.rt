@@ -34,7 +34,7 @@ pub struct Drawn {
     pub rounds: Rounds,
 }
 
-/// Draws what the cabinet behind so many is set up with.
+/// Draws what the cabinet after that many is set up with.
 fn draw_setup(draws: &mut Draws, before: u32, rounds: u32) -> Setup
     requires some { 0 < rounds }
     requires short { rounds ≤ 86400 }
@@ -77,7 +77,7 @@ fn draw_setups(
     Ok(setups)
 }
 
-/// Draws the inputs of the cabinet behind so many, in a round.
+/// Draws the inputs of the cabinet after that many, in a round.
 fn draw_inputs(
     draws: &mut Draws,
     inputs: &mut Vec<Input>,

@@ -1,6 +1,6 @@
-//! Scenarios out of nothing: from a seed, a number of cabinets and one of rounds, a street with
-//! traffic, a download at each cabinet and polls that are lost. The same numbers give the same
-//! scenario, to the byte, on every machine; the reader of scenarios refuses none.
+//! Generated scenarios: from a seed, a number of cabinets and a number of rounds, a street with traffic, a download at
+//! each cabinet and lost polls. The same numbers give the same scenario, to the byte, on every machine; the reader of
+//! scenarios refuses none.
 #![tactic(auto)]
 
 mod drawing;

@@ -141,7 +141,7 @@ fn usual_community() -> ArrayVec<u8, 32>
     community
 }
 
-/// The scenario of all that was drawn for so many rounds, with this compact text.
+/// The scenario of all that was drawn for that many rounds, with this compact text.
 fn scenario_of(
     alloc: Global,
     drawn: Drawn,
@@ -180,10 +180,11 @@ fn scenario_of(
     })
 }
 
-/// The scenario of a seed, for 1 to 64 cabinets and 1 to 86,400 rounds, cabinets times rounds at most 100,000: the same at every call. Each
-/// cabinet has the standard tables, its pattern 1 with an offset and a correction of its own, and one load that gives phase 2 another
-/// maximum green; detectors go on and off, the push button of phase 2 is pressed, and a poll is lost now and then, while the master polls
-/// in each round. A round has 100 ticks of 0.1 s. The reader takes its compact text for this scenario.
+/// The scenario of a seed, for 1 to 64 cabinets and 1 to 86,400 rounds, cabinets times rounds at most 100,000: the same
+/// at every call. Each cabinet has the standard tables, its pattern 1 with an offset and a correction of its own, and
+/// one load that gives phase 2 another maximum green; detectors continue and off, the push button of phase 2 is
+/// pressed, and a poll is lost now and then, while the master polls in each round. A round has 100 ticks of 0.1 s. The
+/// reader takes its compact text for this scenario.
 pub fn make(alloc: Global, seed: u32, cabinets: u32, rounds: u32) -> Result<Scenario, NoMemory>
     requires { CanMake cabinets rounds }
     ensures made { IfOk result (λ s. scenario_content s ≡ generated seed cabinets rounds) }

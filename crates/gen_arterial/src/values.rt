@@ -37,7 +37,7 @@ fn load_in(alloc: Global, setup: &Setup) -> Result<Value, AllocError>
     })
 }
 
-/// A detector that goes on or off.
+/// A detector that turns on or off.
 fn detector_in(
     alloc: Global,
     round: u32,
@@ -57,7 +57,7 @@ fn button_in(alloc: Global, round: u32, cabinet: u32, phase: u8) -> Result<Value
     json!(in alloc; {"cabinet": cabinet, "ped": phase, "round": round})
 }
 
-/// A preempt input that goes on or off.
+/// A preempt input that turns on or off.
 fn preempt_in(
     alloc: Global,
     round: u32,
@@ -223,7 +223,7 @@ fn whole_in(alloc: Global, lists: Lists, rounds: u32) -> Result<Value, NoMemory>
     Ok(Value::Object(members))
 }
 
-/// The value of all that was drawn for so many rounds.
+/// The value of all that was drawn for that many rounds.
 fn value_of(alloc: Global, drawn: &Drawn, rounds: u32) -> Result<Value, NoMemory>
     ensures { IfOk result (λ v. (seed cabinets : ℕ) → AreDrawn drawn.now seed cabinets rounds → view v ≡ scenario_value seed cabinets rounds) }
 {

@@ -17,7 +17,7 @@ pub struct Failed;
 
 /// Where bytes come from.
 pub trait Source {
-    /// The bytes that are left, where it tells them.
+    /// The bytes that are left, if it reports them.
     ghost left: { Self → Option (List ℕ) };
 
     /// How many faults there were.
@@ -39,7 +39,7 @@ pub trait Source {
 
 /// Where bytes go to.
 pub trait Sink {
-    /// The bytes that were written, where it tells them.
+    /// The bytes that were written, if it reports them.
     ghost written: { Self → Option (List ℕ) };
 
     /// How many faults there were.
@@ -60,7 +60,7 @@ pub trait Sink {
         ensures kept { faults self.old ≤ faults self.new };
 }
 
-/// What a worker passes before each act on a cabinet. It tells nothing, and changes nothing that a contract names.
+/// What a worker passes before each act on a cabinet. It says nothing, and changes nothing that a contract names.
 pub trait Gate {
     fn at(&self, pass: u32, cab: u32);
 }

@@ -210,14 +210,14 @@ impl Gate for OpenGate {
     fn at(&self, _pass: u32, _cab: u32) {}
 }
 
-/// Whether the call after so many is in the list.
+/// Whether the call after that many is in the list.
 fn is_listed(fails: &[u32], calls: u64) -> bool
     ensures { IsTrue result ↔ FailsAt fails.now calls }
 {
     calls < 4_294_967_295 && fails.iter().any(|n| u64::from(*n) == calls + 1)
 }
 
-/// Copies the first bytes, as many as fit and at most so many, and says how many.
+/// Copies the first bytes, as many as fit and at most that many, and says how many.
 fn copy_front(buf: &mut [u8], from: &[u8], most: usize) -> usize
     ensures count { result ≡ min (min (length from.now) (length buf.old)) most }
     ensures front { take result buf.new ≡ take result from.now }

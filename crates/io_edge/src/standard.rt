@@ -1,24 +1,32 @@
-//! Adapters over readers and writers of std. Where the reader tells what is left, the source tells the same; where the writer tells
-//! what was written, the sink does. Standard input and output tell nothing: what stands outside the program is trusted.
+//! Adapters over readers and writers: standard input and output, files, buffers before and after them, bytes in
+//! memory, and any other type that implements `SteadyRead` or `SteadyWrite`. If the reader states the bytes that are
+//! left, the source states the same; if the writer states the bytes that were written, the sink does. Standard input
+//! and output and files state nothing: what is outside the program is trusted.
 
 ghost use Rattle.std.specs.Prelude.{◌≡◌, ◌<◌, ◌≤◌, None, take, length, IfOk, OnOk, OnErr, true};
 ghost use Rattle.std.proofs.Common.{ap};
 ghost use Rattle.io_edge.specs.Calls.{one_more};
 ghost use Rattle.io_edge.specs.Edge.{Rises, Stays, Reads, Appends, told_as};
 ghost use Rattle.io_edge.specs.Standard.{reader_of, reader_faults, writer_of, writer_faults};
+ghost use Rattle.io_edge.specs.Silent.{silent_buffer, steady_buffer};
 
 use crate::{Failed, Sink, Source};
-use std::io::{Read, Stderr, Stdin, Stdout, Write};
+use std::alloc::Allocator;
+use std::boxed::Box;
+use std::collections::VecDeque;
+use std::fs::File;
+use std::io::{BufReader, BufWriter, LineWriter, Read, Stderr, Stdin, Stdout, Write};
 
-/// A reader that tells what is left at all times, or at none.
+/// A reader that states the bytes that are left at all times, or at none. A reader that states them only now and then
+/// can't be a source: it could state other bytes than those that it gave meanwhile.
 pub trait SteadyRead: Read {
-    /// Where it tells nothing once, it never tells anything.
+    /// If it states nothing once, it never states anything.
     ghost steady: { (r q : Self) → Self.remaining r ≡ None → Self.remaining q ≡ None };
 }
 
-/// A writer that tells what was written at all times, or at none.
+/// A writer that states the bytes that were written at all times, or at none.
 pub trait SteadyWrite: Write {
-    /// Where it tells nothing once, it never tells anything.
+    /// If it states nothing once, it never states anything.
     ghost steady: { (w v : Self) → Self.contents w ≡ None → Self.contents v ≡ None };
 }
 
@@ -28,6 +36,30 @@ impl SteadyRead for Stdin {
 
 impl SteadyRead for &[u8] {
     ghost steady = { λ r q none. ap (told_as q.now) none };
+}
+
+impl SteadyRead for File {
+    ghost steady = { λ r q none. none };
+}
+
+impl SteadyRead for &File {
+    ghost steady = { λ r q none. none };
+}
+
+impl<A: Allocator> SteadyRead for BufReader<File, A> {
+    ghost steady = { λ r q none. silent_buffer q };
+}
+
+impl<A: Allocator> SteadyRead for BufReader<Stdin, A> {
+    ghost steady = { λ r q none. silent_buffer q };
+}
+
+impl<A: Allocator> SteadyRead for VecDeque<u8, A> {
+    ghost steady = { λ r q none. ap (told_as q.items) none };
+}
+
+impl<R: SteadyRead, A: Allocator> SteadyRead for Box<R, A> {
+    ghost steady = { λ r q none. R.steady r.value q.value none };
 }
 
 impl SteadyWrite for Stdout {
@@ -40,6 +72,30 @@ impl SteadyWrite for Stderr {
 
 impl SteadyWrite for Vec<u8> {
     ghost steady = { λ w v none. ap (told_as v.items) none };
+}
+
+impl SteadyWrite for File {
+    ghost steady = { λ w v none. none };
+}
+
+impl SteadyWrite for &File {
+    ghost steady = { λ w v none. none };
+}
+
+impl<W: SteadyWrite + Drop, A: Allocator> SteadyWrite for BufWriter<W, A> {
+    ghost steady = { λ w v none. steady_buffer W.contents W.steady w v none };
+}
+
+impl<W: SteadyWrite + Drop, A: Allocator> SteadyWrite for LineWriter<W, A> {
+    ghost steady = { λ w v none. steady_buffer W.contents W.steady w.buffered v.buffered none };
+}
+
+impl<A: Allocator> SteadyWrite for VecDeque<u8, A> {
+    ghost steady = { λ w v none. ap (told_as v.items) none };
+}
+
+impl<W: SteadyWrite, A: Allocator> SteadyWrite for Box<W, A> {
+    ghost steady = { λ w v none. W.steady w.value v.value none };
 }
 
 /// A source over a reader, which counts the reads that fail.

@@ -1,5 +1,5 @@
-//! The judge of one cabinet: registers of one size that take a log line by line, and say what each line breaks. What they say is
-//! what looking back over all lines gives (`judge_laws`).
+//! The judge of one cabinet: registers of a fixed size that read a log line by line and report what each line breaks.
+//! Their reports are those that looking back over all lines gives (`judge_laws`).
 #![tactic(auto)]
 
 mod cabinet;

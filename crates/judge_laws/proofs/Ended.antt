@@ -54,7 +54,8 @@ module _ (holds : Indications → Bool) where
     below = rw begins (λ tick above. above);
   }
 
-  -- what is due of each interval: by its first tick and what is shown at it, and by its end and what is shown at that
+  -- what is expected of each interval: by its first tick and what is shown at it, and by its end and what is shown at
+  -- that
   abbrev pub EachDue : (D : ℕ × Indications → ℕ × Indications → Type 0) → List (ℕ × Indications) → Type 0
   EachDue D back = (first end : ℕ) → Interval (Held back) first end → D (first, back_at back first) (end, back_at back end)
 
@@ -91,7 +92,7 @@ module _ (holds : Indications → Bool) where
           subst (λ x. D (first_of holds older) (line.0, x)) (at-line line older line.0 (omega arith))
           (subst (λ x. D ((first_of holds older).0, x) (line.0, back_at (line ∷ older) line.0)) (at-older line older (first_of holds older).0 low ∙ r.at) d)
 
-      -- intervals that ended before a line are those of what was told before
+      -- intervals that ended before a line are those of what was reported before
       keeps-older : (line : ℕ × Indications) (older : List (ℕ × Indications)) (first end : ℕ) → end < line.0
           → Interval (Held (line ∷ older)) first end → Interval (Held older) first end
       keeps-older line older first end low i = record {

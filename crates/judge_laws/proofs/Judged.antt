@@ -18,7 +18,7 @@ pub breaches-more : (terms : Terms) (tables : ℕ → ℕ → Tables) (lines : L
     → breaches terms tables (lines ++ line ∷ []) ≡ breaches terms tables lines ++ line_breaches terms tables (reverse lines) line
 breaches-more terms tables lines line = ap (breaches_back terms tables) (reverse-append lines (line ∷ []))
 
--- what more lines tell
+-- what more lines say
 pub told-append : (cab : ℕ) (xs ys : List Line) → told cab (xs ++ ys) ≡ told cab xs ++ told cab ys
 told-append cab [] ys = refl
 told-append cab (F c tick veh ped mode counter target version ∷ xs) ys = split (c == cab) (told-append cab xs ys)
@@ -64,7 +64,7 @@ told-reverse cab (line ∷ back) =
     one : (x rest : List (ℕ × Indications)) → reverse x ≡ x → reverse rest ++ x ≡ reverse (x ++ rest)
     one x rest e = ap (λ (y : List (ℕ × Indications)). reverse rest ++ y) (sym e) ∙ sym (reverse-append x rest)
 
--- what a cabinet shows at a tick is what the newest line at or before it tells
+-- what a cabinet shows at a tick is what the newest line at or before it says
 shown-more : (tick : ℕ) (before : Indications) (xs : List (ℕ × Indications)) (x : ℕ × Indications)
     → shown_at tick before (xs ++ x ∷ []) ≡ (if nat_le x.0 tick then x.1 else shown_at tick before xs)
 shown-more tick before [] x = refl

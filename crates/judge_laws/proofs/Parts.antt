@@ -60,7 +60,7 @@ module _ (tables : ℕ → Tables) where
     pub colour : colour_of x p ≢ colour_of last p → colour_of x p ≡ next_colour (tables x.version) p (colour_of last p)
     pub signal : signal_of x p ≢ signal_of last p → signal_of x p ≡ next_signal (tables x.version) x.mode p (signal_of last p)
 
-  -- what is due of each interval
+  -- what is expected of each interval
   abbrev pub YellowDue : ℕ → ℕ × Indications → ℕ × Indications → Type 0
   YellowDue p first end = end.0 ≡ first.0 + yellow_time (tables first.1.version) p
 
@@ -81,11 +81,11 @@ module _ (tables : ℕ → Tables) where
       (first.0 + clearance_due (makes_way_for (tables end.1.version) end.1.mode p) (pedestrian_clear_time (tables first.1.version) p) ≤ end.0)
       × (end.0 ≤ first.0 + pedestrian_clear_time (tables first.1.version) p)
 
-  -- a line ends no interval of a fact but as is due
+  -- a line ends no interval of a fact but as is expected
   abbrev pub EndsDue : (Indications → Bool) → (ℕ × Indications → ℕ × Indications → Type 0) → List (ℕ × Indications) → ℕ × Indications → Type 0
   EndsDue holds D older line = holds (newest older) ≡ true → holds line.1 ≡ false → D (first_of holds older) line
 
-  -- a line is as a safe street shows it, after what was told before
+  -- a line is as a safe street shows it, after what was reported before
   pub record Fine (older : List (ℕ × Indications)) (line : ℕ × Indications) : Type 0 where
     pub still : Still line.1
     pub moved : (p : ℕ) → is_phase p ≡ true → 0 < line.0 → Moved p (newest older) line.1

@@ -1,4 +1,4 @@
--- The ticks of what a history tells rise.
+-- The ticks of what a history says rise.
 use Rattle.std.proofs.Common.{◌≡◌, ℕ, Bool, true, false, if◌then◌else◌, List, [], ◌∷◌, ◌++◌, length, sym, ◌∙◌, ap, subst, arith, reverse}
 use Rattle.std.proofs.lemmas.List.{reverse-append, append-nil}
 use Rattle.sig_types.specs.declared.frame.Frame.{Frame}

@@ -56,7 +56,8 @@ first_of holds (line ∷ older) = if holds (newest older) then first_of holds ol
 abbrev pub ends : (Indications → Bool) → List (ℕ × Indications) → ℕ × Indications → Bool
 ends holds older line = holds (newest older) && not (holds line.1)
 
--- an interval, by its first line and the line that ends it, lasted at least so many ticks, or at most, within a tolerance
+-- an interval, by its first line and the line that ends it, lasted at least that many ticks, or at most, within a
+-- tolerance
 abbrev pub lasts_at_least : ℕ → ℕ → ℕ × Indications → ℕ × Indications → Bool
 lasts_at_least tolerance time first end = nat_le (first.0 + time) (end.0 + tolerance)
 

@@ -1,5 +1,5 @@
--- What has run over its time and has not ended when a log ends. It is no breach, since a safe street is one whose ended intervals have
--- lasted their time; but a yellow that never ends must be reported.
+-- What has run over its time and has not ended when a log ends. It is not a breach, since a safe street is one whose
+-- ended intervals have lasted their time; but a yellow that never ends must be reported.
 use Rattle.std.specs.Prelude.{ℕ, ◌+◌, ◌&&◌, nat_lt, max, Bool, if◌then◌else◌, List, [], ◌∷◌, ◌++◌, reverse}
 use Rattle.sig_types.specs.declared.frame.Colour.TheVariants.{Yellow, Clear}
 use Rattle.sig_types.specs.declared.frame.Ped.TheVariants.{Walk, Flash}

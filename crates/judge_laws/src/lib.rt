@@ -1,6 +1,6 @@
-//! What a log of indications breaks of a safe street, one breach after another, each at the line that shows it. The law: a log
-//! shows no breach exactly if the street of each cabinet is safe. The definitions know the frame lines and the tables, and no rule
-//! of a tick, so they judge the indications of any controller.
+//! The breaches of a safe street that a log of indications shows, one after another, each at the line that shows it.
+//! The law: a log shows no breach exactly if the street of each cabinet is safe. The definitions use the frame lines
+//! and the tables, and no rule of a tick, so they apply to the indications of any controller.
 #![tactic(auto)]
 
 ghost use Rattle.std.specs.Prelude.{◌≡◌, ◌↔◌, ◌≤◌, ℕ, Bool, false, true, List, [], ◌∷◌, ◌++◌, reverse};

@@ -11,7 +11,7 @@ use Rattle.sig_tables.specs.Decide.{frames}
 use Rattle.sig_tables.specs.Standard.{max8}
 use Rattle.sig_types.specs.declared.frame.Field.TheVariants.{Veh}
 
--- so many ticks
+-- that many ticks
 abbrev pub ticks : ℕ → List Event
 ticks zero = []
 ticks (suc n) = Tick ∷ ticks n
@@ -28,7 +28,7 @@ changes zero (g ∷ f ∷ before) = []
 changes (suc n) (g ∷ f ∷ before) =
     if same_colours g.veh f.veh then changes n (f ∷ before) else (suc n, g.veh) ∷ changes n (f ∷ before)
 
--- the tick numbers alone
+-- only the numbers of ticks
 abbrev pub change_ticks : List (ℕ × List Colour) → List ℕ
 change_ticks [] = []
 change_ticks (x ∷ xs) = x.0 ∷ change_ticks xs

@@ -1,4 +1,4 @@
--- The history gains_often, and what is due of it.
+-- The history gains_often, and what is expected of it.
 use Rattle.std.specs.Prelude.{List, [], codes, ◌∷◌, true}
 use Rattle.sig_types.specs.declared.frame.Field.TheVariants.{Veh}
 use Rattle.sig_types.specs.declared.frame.Mode.TheVariants.{Coord}

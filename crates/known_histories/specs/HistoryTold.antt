@@ -1,5 +1,5 @@
--- What a history tells: a line for each tick at which the frame shows something new or is a local zero, as a trace has them;
--- sums over all ticks, so that each one counts; and what is shown at the end.
+-- What a history says: a line for each tick at which the frame shows something new or is a local zero, as a trace has
+-- them; sums over all ticks, so that each one counts; and what is shown at the end.
 use Rattle.std.specs.Prelude.{ℕ, ◌+◌, ◌&&◌, not, if◌then◌else◌, List, [], ◌∷◌, ◌++◌, codes}
 use Rattle.sig_types.specs.declared.frame.Colour.{Colour}
 use Rattle.sig_types.specs.declared.frame.Colour.TheVariants.{Green, Yellow, Clear, Red}
@@ -60,7 +60,7 @@ abbrev pub line_of : Moment → Line
 line_of m =
     line m.number (letters m.frame.veh) (signal_letters m.frame.ped) m.frame.mode m.frame.counter m.frame.target m.frame.version
 
--- the line of a moment where one is due, after that of the moment before it, and the other lines
+-- the line of a moment where one is expected, after that of the moment before it, and the other lines
 abbrev pub line_before : Moment → Moment → List Line → List Line
 line_before m n lines =
     if shows_same n.frame m.frame && not (is_local_zero m.frame.mode m.frame.counter n.frame) then lines else line_of m ∷ lines

@@ -1,4 +1,4 @@
--- The history mixed_fifth, and what is due of it.
+-- The history mixed_fifth, and what is expected of it.
 use Rattle.std.specs.Prelude.{List, [], codes, ◌∷◌, true, false}
 use Rattle.sig_types.specs.declared.frame.Field.TheVariants.{Veh, Ped as Button, Preempt as PreemptInput}
 use Rattle.sig_types.specs.declared.frame.Mode.TheVariants.{Start, Seek, Coord, Entry, Dwell}

@@ -1,4 +1,4 @@
--- The history past_midnight, and what is due of it.
+-- The history past_midnight, and what is expected of it.
 use Rattle.std.specs.Prelude.{List, [], codes, ◌∷◌}
 use Rattle.sig_types.specs.declared.frame.Mode.TheVariants.{Coord}
 use Rattle.sig_tables.specs.declared.tables.Tables.{Tables}

@@ -1,4 +1,4 @@
--- The history preempted, and what is due of it.
+-- The history preempted, and what is expected of it.
 use Rattle.std.specs.Prelude.{List, [], codes, ◌∷◌, true, false}
 use Rattle.sig_types.specs.declared.frame.Field.TheVariants.{Ped as Button, Preempt as PreemptInput}
 use Rattle.sig_types.specs.declared.frame.Mode.TheVariants.{Free, Entry, Dwell}

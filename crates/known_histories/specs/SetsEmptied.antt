@@ -1,4 +1,4 @@
--- The history sets_emptied, and what is due of it.
+-- The history sets_emptied, and what is expected of it.
 use Rattle.std.specs.Prelude.{List, [], codes, ◌∷◌, true, false}
 use Rattle.sig_types.specs.declared.frame.Field.TheVariants.{Veh, Preempt as PreemptInput}
 use Rattle.sig_types.specs.declared.frame.Mode.TheVariants.{Free, Entry, Dwell, Exit}

@@ -1,4 +1,4 @@
--- The history stands_and_skips, and what is due of it.
+-- The history stands_and_skips, and what is expected of it.
 use Rattle.std.specs.Prelude.{List, [], codes, ◌∷◌, true, false}
 use Rattle.sig_types.specs.declared.frame.Field.TheVariants.{Veh, Ped as Button}
 use Rattle.sig_types.specs.declared.frame.Mode.TheVariants.{Seek, Coord}

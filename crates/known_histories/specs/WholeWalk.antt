@@ -1,4 +1,4 @@
--- The history whole_walk, and what is due of it.
+-- The history whole_walk, and what is expected of it.
 use Rattle.std.specs.Prelude.{List, [], codes, ◌∷◌}
 use Rattle.sig_types.specs.declared.frame.Field.TheVariants.{Ped as Button}
 use Rattle.sig_types.specs.declared.frame.Mode.TheVariants.{Coord}

@@ -1,5 +1,6 @@
-//! Histories of whole ticks against what an independent program says of them, computed by the check: that the definitions of a
-//! tick mean what the rules of signal control say, in every mode. The functions have no bodies.
+//! Histories of whole ticks, compared with what an independent program says about them. The prover computes them from
+//! the definitions. So the definitions of a tick mean what the rules of signal control say, in every mode. The
+//! functions have no bodies.
 #![tactic(auto)]
 
 ghost use Rattle.std.specs.Prelude.{◌≡◌, [], ◌∷◌};
@@ -136,12 +137,12 @@ pub fn floating_force()
     ensures { told_of floating_force_history ≡ floating_force_told }
 {}
 
-/// Offsets that refer to the end of green: the target stands the window ahead, and the counter dwells towards it.
+/// Offsets that refer to the end of green: the target is ahead by the window, and the counter dwells towards it.
 pub fn end_of_green()
     ensures { told_of end_of_green_history ≡ end_of_green_told }
 {}
 
-/// A clock that loses a tick: local zero finds the target one tick behind.
+/// A clock that loses a tick: local zero finds the target one tick after.
 pub fn loses()
     ensures { told_of loses_history ≡ loses_told }
 {}
@@ -183,7 +184,7 @@ pub fn mixed_sixth()
     ensures { told_of mixed_sixth_history ≡ mixed_sixth_told }
 {}
 
-/// A run in which the counter stands and skips.
+/// A run in which the counter waits and skips.
 pub fn stands_and_skips()
     ensures { told_of stands_and_skips_history ≡ stands_and_skips_told }
 {}

@@ -1,4 +1,4 @@
--- Copies that are due, of lists of copies.
+-- Copies that are expected, of lists of copies.
 use Rattle.std.proofs.Common.{◌≡◌, ℕ, zero, suc, length, ◌+◌, ◌<◌, ◌≤◌, ◌&&◌, Bool, true, false, ◌==◌, nat_lt, nat_le, if◌then◌else◌, List, [], ◌∷◌, ◌++◌, refl, ◌∙◌, ap, arith}
 use Rattle.std.specs.List.{filter, AllByRecursion}
 use Rattle.std.specs.Prelude.{get_or}
@@ -19,7 +19,7 @@ due-append before due (x ∷ xs) ys = split (due-append before due xs ys) (nat_l
     split ih true = ap (λ texts. x.octets.items ∷ texts) ih
     split ih false = ih
 
--- a copy of what is sent in a round comes so many rounds later, and in no other round from the next one on
+-- a copy of what is sent in a round comes that many rounds later, and in no other round from the next one on
 pub keep_later : (late : List Late) (x : Late) (round by rounds : ℕ) (text : List ℕ) → x.octets.items ≡ text → x.sent ≡ round → x.due ≡ round + by → 0 < by
     → due_texts (round + 1) (round + rounds) (late ++ x ∷ []) ≡ due_texts (round + 1) (round + rounds) late ++ copy_after LateFault by rounds text
 keep_later late x round by rounds text o s d above =
@@ -32,11 +32,11 @@ keep_later late x round by rounds text o s d above =
 pub keep_now : (late : List Late) (x : Late) (round due : ℕ) → x.sent ≡ round → due_texts round due (late ++ x ∷ []) ≡ due_texts round due late
 keep_now late x round due s = due-append round due late (x ∷ []) ∙ grind (arith, s, common_steps)
 
--- a copy that is kept in a round: it was sent before, and is due in it or later
+-- a copy that is kept in a round: it was sent before, and is expected in it or later
 abbrev pub is_kept : ℕ → Late → Bool
 is_kept round copy = nat_lt copy.sent round && nat_le round copy.due
 
--- those that are kept are all that are due from the round on, of what was sent before it
+-- those that are kept are all that are expected from the round on, of what was sent before it
 pub kept_due : (round due : ℕ) → round ≤ due → (late : List Late) → due_texts round due (filter (is_kept round) late) ≡ due_texts round due late
 kept_due round due h [] = refl
 kept_due round due h (x ∷ late) = split (kept_due round due h late) (is_kept round x) refl

@@ -1,4 +1,4 @@
--- The order of the faults: where a fault that meets a frame stands among the sorted ones, and that sorting keeps the first.
+-- The order of the faults: where a fault that meets a frame is among the sorted ones, and that sorting keeps the first.
 use Rattle.std.proofs.Common.{◌≡◌, inl, inr, ◌≤◌, ◌<◌, ◌==◌, ◌&&◌, ℕ, Bool, true, false, List, length, get_or, Some, None, nat_cmp, refl, sym, ap, ◌∙◌, arith}
 use Rattle.std.specs.Cmp.{IsTotalOrder, unsigned_tied}
 use Rattle.std.specs.Ordering.{is_lt, is_eq, ordering_then}
@@ -47,7 +47,7 @@ same_rank Up Up = refl
 five : (a b c d e a2 b2 c2 d2 e2 : Bool) → a ≡ a2 → b ≡ b2 → c ≡ c2 → d ≡ d2 → e ≡ e2 → ((((a && b) && c) && d) && e) ≡ ((((a2 && b2) && c2) && d2) && e2)
 five a b c d e a2 b2 c2 d2 e2 p q r s t = cc
 
--- a fault meets the frames at whose place it stands
+-- a fault meets the frames at whose place it is
 meets_is : (line : Line) (round place : ℕ) (f : Fault) → is_eq (by_place f (fault_at line round place)) ≡ meets line round place f
 meets_is line round place f =
     let r = nat_cmp f.round round in
@@ -73,7 +73,8 @@ sorted_same faults sorted stable line round place =
     same_first (meets line round place) sorted faults
     (sym (filter_agree _ _ p sorted) ∙ stable (fault_at line round place) ∙ filter_agree _ _ p faults)
 
--- the place up to which the faults are before a frame: where a fault stands there that meets it, it is the fault of the frame
+-- the place up to which the faults are before a frame: where a fault is there that meets it, it is the fault of the
+-- frame
 pub met_here : (sorted : List Fault) (line : Line) (round place at : ℕ) (d : Fault) → at < length sorted
     → ((k : ℕ) → k < at → is_lt (by_place (get_or sorted k d) (fault_at line round place)) ≡ true)
     → meets line round place (get_or sorted at d) ≡ true → fault_of sorted line round place ≡ Some (get_or sorted at d)

@@ -20,7 +20,7 @@ pub carried_is : (fs gs : List Fault) → SameFaults fs gs → (line : Line) (te
 carried_is fs gs same line texts first arrived past e f =
     e ∙ ap (λ (t : List (List ℕ)). carried fs line (t ∷ past)) f ∙ same_carried fs gs same line (first ∷ past)
 
--- and with the scenario's own frames behind it, in the newest of so many rounds
+-- and with the scenario's own frames after it, in the newest of that many rounds
 pub stream_is : (fs : List Fault) (s : ScenarioContent) → SameFaults fs s.faults → (cab : ℕ) (way : Way) (round rounds : ℕ) (texts first arrived all : List (List ℕ))
     (past : List (List (List ℕ))) → all ≡ arrived ++ frames_of s.frames round cab way → arrived ≡ carried fs (line_down cab way) (texts ∷ past) → texts ≡ first
     → round ≡ rounds → all ≡ carried s.faults (line_down cab way) (first ∷ past) ++ frames_of s.frames rounds cab way

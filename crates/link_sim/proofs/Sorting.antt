@@ -1,4 +1,4 @@
--- Sorted lists: how far one is below an element, and where those stand that tie with it.
+-- Sorted lists: how far one is below an element, and where those are that tie with it.
 use Rattle.std.proofs.Common.{◌≡◌, ◌≤◌, ◌<◌, ◌+◌, ◌&&◌, ℕ, zero, suc, Bool, true, false, not, cond, List, [], ◌∷◌, length, take, drop, filter, get_or, Option, Some, None, Ordering, Less, Equal, Greater, refl, sym, ap, ◌∙◌, arith}
 use Rattle.std.specs.List.{find}
 use Rattle.std.specs.Cmp.{IsTotalOrder}
@@ -18,7 +18,7 @@ tied {A} {cmp} o x y = ap (λ r. not (is_lt r) && not (is_lt (cmp y x))) (o.anti
     split Equal = refl
     split Greater = refl
 
--- what is not before an element that stands behind a third is not before this
+-- what is not before an element that follows a third is not before this
 pub no_lower : {A : Type 0} {cmp : A → A → Ordering} → IsTotalOrder cmp → (x y t : A) → is_lt (cmp y x) ≡ false → is_gt (cmp x t) ≡ true → is_gt (cmp y t) ≡ true
 no_lower {A} {cmp} o x y t low high = split (cmp y t) (cmp y x) refl refl low
   where
@@ -45,7 +45,7 @@ pub none_found : {A : Type 0} (p : A → Bool) (d : A) (xs : List A) → ((k : �
 none_found p d [] none = refl
 none_found p d (x ∷ xs) none = rw (none 0 (omega arith)) (none_found p d xs (λ k below. none (suc k) (omega (arith, below))))
 
--- the first that passes the test stands at this place
+-- the first that passes the test is at this place
 pub found_at : {A : Type 0} (p : A → Bool) (d : A) (at : ℕ) (xs : List A) → at < length xs → ((k : ℕ) → k < at → p (get_or xs k d) ≡ false)
     → p (get_or xs at d) ≡ true → find p xs ≡ Some (get_or xs at d)
 found_at p d at [] below none here = absurd (omega (arith, below))
@@ -69,7 +69,7 @@ find_is {A} p (x ∷ xs) = split (p x) (find_is p xs)
 pub same_first : {A : Type 0} (p : A → Bool) (xs ys : List A) → filter p xs ≡ filter p ys → find p xs ≡ find p ys
 same_first p xs ys e = find_is p xs ∙ ap first_of e ∙ sym (find_is p ys)
 
--- in a sorted list what stands before an element that is less than another is less than it too
+-- in a sorted list, if an element is less than a value, everything before it is less as well
 pub parted : {A : Type 0} {cmp : A → A → Ordering} → IsTotalOrder cmp → (sorted : List A) → IsSorted cmp sorted → (t : A) → (i j : ℕ) (d : A) → i ≤ j → j < length sorted
     → is_lt (cmp (get_or sorted j d) t) ≡ true → is_lt (cmp (get_or sorted i d) t) ≡ true
 parted {A} {cmp} o sorted up t i j d le below early =
@@ -85,7 +85,7 @@ parted {A} {cmp} o sorted up t i j d le below early =
         split Less Equal e g h = ap is_lt (o.congr x y t g ∙ e)
         split Less Greater e g h = absurd (false≢true (sym far ∙ ap is_lt (o.antisymm y x ∙ ap ordering_reverse g)))
 
--- behind an element that is neither less than another nor ties with it, nothing ties with that
+-- after an element that is neither less than another nor ties with it, nothing ties with that
 pub none_behind : {A : Type 0} {cmp : A → A → Ordering} → IsTotalOrder cmp → (sorted : List A) → IsSorted cmp sorted → (t : A) → (at : ℕ) (d : A) → at < length sorted
     → is_lt (cmp (get_or sorted at d) t) ≡ false → is_eq (cmp (get_or sorted at d) t) ≡ false
     → (k : ℕ) → at ≤ k → k < length sorted → is_eq (cmp (get_or sorted k d) t) ≡ false
@@ -116,7 +116,7 @@ then_eq Less b = refl
 then_eq Equal b = refl
 then_eq Greater b = refl
 
--- the part from one place on of which all pass a test, where none before it and none behind it does
+-- the part from one place on of which all pass a test, where none before it and none after it does
 pub part_kept : {A : Type 0} (q : A → Bool) (d : A) (from n : ℕ) (xs : List A) → from + n ≤ length xs
     → ((k : ℕ) → k < from → q (get_or xs k d) ≡ false) → ((k : ℕ) → from ≤ k → k < from + n → q (get_or xs k d) ≡ true)
     → ((k : ℕ) → from + n ≤ k → k < length xs → q (get_or xs k d) ≡ false) → take n (drop from xs) ≡ filter q xs

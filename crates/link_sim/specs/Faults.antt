@@ -37,7 +37,8 @@ abbrev pub flipped : List ℕ → ℕ → ℕ → List ℕ
 flipped octets place octet =
     if nat_lt place (length octets) then set octets place (bit_xor (get_or octets place 0) octet) else octets
 
--- what arrives at once of a frame that meets a fault: a late one arrives, and its copy comes later, or right behind it by 0 rounds
+-- what arrives at once of a frame that meets a fault: a late one arrives, and its copy comes later, or right after it
+-- by 0 rounds
 abbrev pub at_once : FaultKind → ℕ → ℕ → List ℕ → List (List ℕ)
 at_once Lose by octet text = []
 at_once Repeat by octet text = text ∷ text ∷ []
@@ -45,7 +46,7 @@ at_once Late by octet text = if by == 0 then text ∷ text ∷ [] else text ∷ 
 at_once Flip by octet text = flipped text by octet ∷ []
 at_once Cut by octet text = take by text ∷ []
 
--- the copy that comes so many rounds later
+-- the copy that comes that many rounds later
 abbrev pub copy_after : FaultKind → ℕ → ℕ → List ℕ → List (List ℕ)
 copy_after Lose by rounds text = []
 copy_after Repeat by rounds text = []

@@ -9,8 +9,8 @@ use Rattle.link_sim.specs.LateLists.{listed_late}
 abbrev pub line_of : StreamLine → Line
 line_of w = w.line
 
--- in each later round, those due are the late copies of the frames that were sent in these; what is kept of a round behind them,
--- which was given up for want of memory and comes again, does not count
+-- in each later round, the expected ones are the late copies of the frames that were sent in these; what is kept of a
+-- round after them, which was given up because memory ran out and is repeated, does not count
 abbrev pub Holds : StreamLine → List Fault → List (List (List ℕ)) → Type 0
 Holds w faults past =
     (rounds : ℕ) → 1 ≤ rounds

@@ -1,5 +1,5 @@
--- A round over the lines of a cabinet: what arrives of the frames that are sent in it, and what the lines hold after it. What was sent in
--- the rounds before has the newest first, and the round comes right behind these.
+-- A round over the lines of a cabinet: what arrives of the frames that are sent in it, and what the lines hold after
+-- it. What was sent in the rounds before has the newest first, and the round comes right after these.
 use Rattle.std.specs.Prelude.{ℕ, ◌≡◌, ◌+◌, List, ◌∷◌, length}
 use Rattle.sig_types.specs.declared.notes.Way.TheVariants.{Poll, Load, Prio}
 use Rattle.sig_types.specs.Items.{texts_of}
@@ -42,7 +42,7 @@ pub record AreCarried (faults : List Fault) (cab : ℕ) (direction : Direction) 
   -- priority requests or their replies
   pub prios : texts_of arrived.prios.items ≡ carried faults (line_at cab Prio direction) (texts_of sent.prios.now ∷ past.prios)
 
--- over the three lines arrives what they carry, of whatever cabinet and direction they are
+-- over the three lines arrives what they carry, for any cabinet and direction
 abbrev pub ArriveOver : Lines → List Fault → ℕ → StreamFrames → Arrivals → Type 0
 ArriveOver old faults round sent arrived =
     (cab : ℕ) (direction : Direction) (past : Passed) → AreLines old faults cab direction past → round ≡ length past.polls + 1

@@ -1,4 +1,4 @@
--- That the link stands for what was sent and replied so far. Rounds have the newest first.
+-- That the link represents what was sent and replied so far. Rounds have the newest first.
 use Rattle.std.specs.Prelude.{ℕ, ◌≡◌, ◌+◌, ◌<◌, List, [], ◌∷◌, length, get_or, Option, Some, None}
 use Rattle.arrayvec.specs.ArrayVec.{ArrayVec}
 use Rattle.sig_types.specs.declared.notes.Way.TheVariants.{Poll, Load, Prio}
@@ -59,7 +59,7 @@ pub record Returns (old new : Lines) (lists : Lists) (s : ScenarioContent) (roun
   pub holds : (past : Passed) → AreOf lists s → AreLines old (faults_in lists.faults) cab Up past → round ≡ length past.polls + 1
       → AreLines new (faults_in lists.faults) cab Up (answered answers past)
 
--- the lines of so many cabinets in a direction, of which nothing went over any
+-- the lines of that many cabinets in a direction, of which nothing went over any
 abbrev pub AreUnused : List Lines → ℕ → Direction → Type 0
 AreUnused all cabinets direction =
     (k : ℕ) → (d : Lines) → (faults : List Fault) → k < cabinets → AreLines (get_or all k d) faults (k + 1) direction nothing_passed

@@ -1,5 +1,6 @@
--- A round over the link: what reaches the cabinets, what arrives at the master, and what the link stands for after it. Rounds have the
--- newest first. Each statement is of the cabinet at a place, counted from 0, by what was sent to it and what it replied so far.
+-- A round over the link: what reaches the cabinets, what arrives at the master, and what the link represents after it.
+-- Rounds have the newest first. Each statement is of the cabinet at a place, counted from 0, by what was sent to it and
+-- what it replied so far.
 use Rattle.std.specs.Prelude.{ℕ, ◌≡◌, ◌+◌, ◌<◌, List, ◌∷◌, length, get_or}
 use Rattle.sig_types.specs.declared.streams.Answers.{Answers}
 use Rattle.sig_types.specs.declared.streams.Sending.{Sending}
@@ -12,14 +13,15 @@ use Rattle.link_sim.specs.Reaching.{deliveries}
 use Rattle.link_sim.specs.LinkStands.{LinkStands, cabinet_count}
 use Rattle.link_sim.specs.StreamFrames.{Passed}
 
--- a round goes down to each cabinet: for whatever the link stands there, it comes right behind the rounds that were sent, and this holds
+-- a round goes down to each cabinet: for whatever the link is there, it comes right after the rounds that were sent,
+-- and this holds
 abbrev pub EachSentTo : Link → ScenarioContent → ℕ → (ℕ → List (List (List ℕ)) → List (List (List ℕ)) → Passed → Type 0) → Type 0
 EachSentTo link s round Holds =
     (place : ℕ) (polls loads : List (List (List ℕ))) (replied : Passed) → place < cabinet_count link → LinkStands link s place polls loads replied
     → round ≡ length polls + 1 → Holds place polls loads replied
 
--- a round comes back from each cabinet: for whatever the link stands there, it comes right behind the rounds that were replied, and this
--- holds
+-- a round comes back from each cabinet: for whatever the link is there, it comes right after the rounds that were
+-- replied, and this holds
 abbrev pub EachHeardFrom : Link → ScenarioContent → ℕ → (ℕ → List (List (List ℕ)) → List (List (List ℕ)) → Passed → Type 0) → Type 0
 EachHeardFrom link s round Holds =
     (place : ℕ) (polls loads : List (List (List ℕ))) (replied : Passed) → place < cabinet_count link → LinkStands link s place polls loads replied
@@ -31,7 +33,7 @@ ReceivesItsFrames s sendings all place polls loads replied =
     (sending : Sending) (streams : Streams) → items_of (get_or all place streams)
     ≡ deliveries s (place + 1) (sent_text (get_or sendings place sending).poll ∷ polls) (sent_text (get_or sendings place sending).load ∷ loads)
 
--- the link stands for what is sent now and was sent before
+-- the link represents what is sent now and was sent before
 abbrev pub StandsWithSent : Link → ScenarioContent → List Sending → ℕ → List (List (List ℕ)) → List (List (List ℕ)) → Passed → Type 0
 StandsWithSent link s sendings place polls loads replied =
     (sending : Sending)
@@ -42,7 +44,7 @@ abbrev pub RepliesArrive : ScenarioContent → List Answers → List Answers →
 RepliesArrive s answers all place polls loads replied =
     (replies arrived : Answers) → ArriveFrom s (place + 1) replied (get_or answers place replies) (get_or all place arrived)
 
--- the link stands for what was replied now and before
+-- the link represents what was replied now and before
 abbrev pub StandsWithReplied : Link → ScenarioContent → List Answers → ℕ → List (List (List ℕ)) → List (List (List ℕ)) → Passed → Type 0
 StandsWithReplied link s answers place polls loads replied =
     (replies : Answers) → LinkStands link s place polls loads (answered (get_or answers place replies) replied)

@@ -18,7 +18,7 @@ pub record AreOf (lists : Lists) (s : ScenarioContent) : Type 0 where
   pub frames : HasItems (λ f. f.round) (λ f. f.cabinet) s.frames (dues_in lists.frames)
   pub requests : HasItems (λ p. p.round) (λ p. p.cabinet) s.priority (dues_in lists.requests)
 
--- what has arrived at a cabinet in a round, and behind it the scenario's own frames
+-- what has arrived at a cabinet in a round, and after it the scenario's own frames
 pub record HaveOwn (s : ScenarioContent) (round cab : ℕ) (arrived all : Arrivals) : Type 0 where
   -- on the stream of polls
   pub polls : texts_of all.polls.items ≡ texts_of arrived.polls.items ++ frames_of s.frames round cab Poll

@@ -10,7 +10,7 @@ use Rattle.sig_types.specs.Passes.{pass_of}
 use Rattle.link_sim.specs.declared.Line.{Line}
 use Rattle.link_sim.specs.Faults.{fault_of}
 
--- what goes down stands before what comes up
+-- what goes down is before what comes up
 abbrev pub rank_of : Direction → ℕ
 rank_of Down = 0
 rank_of Up = 1

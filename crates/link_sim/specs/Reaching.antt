@@ -21,7 +21,7 @@ is_frame_of round cab way f = (f.round == round) && (f.cabinet == cab) && same_w
 abbrev pub frames_of : List FrameContent → ℕ → ℕ → Way → List (List ℕ)
 frames_of frames round cab way = map (λ f. f.hex) (filter (is_frame_of round cab way) frames)
 
--- the scenario's priority requests to a cabinet in each of so many rounds
+-- the scenario's priority requests to a cabinet in each of that many rounds
 abbrev pub requested : ScenarioContent → ℕ → ℕ → List (List (List ℕ))
 requested s cab zero = []
 requested s cab (suc rounds) = priority_texts s.community s.priority (rounds + 1) cab ∷ requested s cab rounds

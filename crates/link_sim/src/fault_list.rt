@@ -40,7 +40,7 @@ fn meets(line: Line, round: u32, place: u64, fault: &Fault) -> bool
         && u64::from(fault.index) == place
 }
 
-/// Whether the frame that a fault meets stands before the one at a place of what goes over a line in a round.
+/// Whether the frame that a fault meets is before the one at a place of what goes over a line in a round.
 fn precedes(fault: &Fault, line: Line, round: u32, place: u64) -> bool
     ensures { result ≡ is_lt (by_place fault.now (fault_at line round place)) }
 {

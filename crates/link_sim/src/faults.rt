@@ -8,7 +8,7 @@ use scenario_data::{Fault, FaultKind};
 use sig_types::Octets;
 use std::alloc::AllocError;
 
-/// The first octets of a frame, at most so many.
+/// The first octets of a frame, at most that many.
 fn cut(octets: &Octets, most: u32) -> Octets
     ensures { result.items ≡ take most octets.now.items }
 {

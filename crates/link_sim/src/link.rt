@@ -23,7 +23,7 @@ pub struct Link {
     ghost few: { length down.items ≤ 64 },
 }
 
-/// The lines of so many cabinets in a direction, over which nothing went.
+/// The lines of that many cabinets in a direction, over which nothing went.
 fn open_lines(
     alloc: Global,
     cabinets: usize,

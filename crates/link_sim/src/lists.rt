@@ -116,7 +116,7 @@ impl Lists {
         }
     }
 
-    /// What arrives on the streams, with the scenario's own frames behind it.
+    /// What arrives on the streams, with the scenario's own frames after it.
     pub fn with_own(
         &self,
         arrived: Arrivals,

@@ -142,7 +142,7 @@ fn send(
     Ok(())
 }
 
-/// Appends the copies of what was sent before a round that are due in it.
+/// Appends the copies of what was sent before a round that are expected in it.
 fn push_all_due(late: &Vec<Late>, round: u32, out: &mut Vec<Octets>) -> Result<(), AllocError>
     ensures { OnOk result (texts_of out.new.items ≡ texts_of out.old.items ++ due_texts round round late.now.items) }
 {
@@ -154,14 +154,14 @@ fn push_all_due(late: &Vec<Late>, round: u32, out: &mut Vec<Octets>) -> Result<(
     Ok(())
 }
 
-/// Appends the copies of what was sent before a round that are due in it, from its list.
+/// Appends the copies of what was sent before a round that are expected in it, from its list.
 fn push_due(late: &[LateList; 32], round: u32, out: &mut Vec<Octets>) -> Result<(), AllocError>
     ensures { OnOk result (texts_of out.new.items ≡ texts_of out.old.items ++ listed_late round round late.now) }
 {
     push_all_due(&late[(round % 32) as usize].copies, round, out)
 }
 
-/// Drops the copies that were due before a round, and those that were kept when it was tried before.
+/// Drops the copies that were expected before a round, and those that were kept when it was tried before.
 fn drop_past(late: &mut Vec<Late>, round: u32)
     ensures drops { DropsPast round late.old.items late.new.items }
 {
@@ -175,7 +175,7 @@ fn drop_in(late_list: &mut LateList, round: u32)
     drop_past(&mut late_list.copies, round);
 }
 
-/// The same in the list of the round: those in it were due 32 rounds ago.
+/// The same in the list of the round: those in it were expected 32 rounds ago.
 fn drop_one(late: &mut [LateList; 32], round: u32)
     ensures own { DropsPast round (on_late_list late.old (round % 32)) (on_late_list late.new (round % 32)) }
     ensures others { (k : ℕ) → k ≢ round % 32 → on_late_list late.new k ≡ on_late_list late.old k }
@@ -192,7 +192,7 @@ fn drop_all(late: &mut [LateList; 32], round: u32)
     }
 }
 
-/// Drops what was due before a round; where the round comes again, also what was kept when it was tried before.
+/// Drops what was expected before a round; where the round is repeated, also what was kept when it was tried before.
 fn make_ready(late: &mut [LateList; 32], last: u32, round: u32)
     requires sent { NoneAfter last late.old }
     ensures now { (due : ℕ) → round ≤ due → listed_late round due late.new ≡ listed_late round due late.old }

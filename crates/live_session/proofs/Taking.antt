@@ -1,4 +1,4 @@
--- What a book has come to by one step more.
+-- What a book has reached by one step more.
 use Rattle.std.proofs.Common.{◌≡◌, ◌≢◌, ◌<◌, ◌≤◌, ◌+◌, ◌-◌, ◌∙◌, ℕ, inl, inr, List, [], ◌∷◌, ◌++◌, length, get_or, append_assoc, append-nil, replicate, slice_set, refl, sym, ap, subst, arith}
 use Rattle.std.proofs.lemmas.List.{get_or-set_same, get_or-set_other, length-append, length-map, replicate-append-replicate}
 use Rattle.std.proofs.lemmas.Bool.Decides.{eqb_tells}
@@ -69,7 +69,7 @@ longer-replies t acts more old new was is =
 
 -- ---- ticks
 
--- of so many ticks all but a rest were brought to a book
+-- of that many ticks all but a rest were brought to a book
 pub record IsTickedTo (many rest : ℕ) (old now : Book) : Type 0 where
   pub stands : (cabinet_history : CabinetHistory) → BookStands old cabinet_history → BookStands now cabinet_history
   pub streams : streams_in now ≡ streams_in old

@@ -1,4 +1,4 @@
--- Moments that go on with the last one.
+-- Moments that continue with the last one.
 use Rattle.std.proofs.Common.{◌≡◌, ◌<◌, ◌≤◌, ◌+◌, ◌-◌, ◌==◌, ◌&&◌, ◌⊎◌, inl, inr, not, ℕ, zero, suc, min, nat_lt, Bool, true, false, if◌then◌else◌, List, [], ◌∷◌, ◌++◌, length, get_or, replicate, refl, sym, ◌∙◌, ap, arith, eq-eqb}
 use Rattle.std.proofs.lemmas.List.{get_or-replicate}
 use Rattle.std.proofs.lemmas.Bool.{cases_Bool, ltb-true, ltb-false}
@@ -56,7 +56,7 @@ newest-tells (suc n) (suc t) g older m past le some h = h.0
 newest-tells (suc n) zero g older m past le (inl one) h = absurd (omega arith)
 newest-tells (suc n) zero g older m past le (inr none) h = absurd (rw none at h)
 
--- what is kept of a moment is kept of one that goes on with it, but for what its tick saw
+-- what is kept of a moment is kept of one that continues with it, except what its tick saw
 pub tells-again : (g : Sample) (last m : Moment) (q o : PhaseSet) → Tells g last → ShowsAgain m.frame last.frame
     → ((p : ℕ) → is_phase p ≡ true → has q p ≡ is_in m.quiet p) → ((p : ℕ) → is_phase p ≡ true → has o p ≡ is_in m.opposed p)
     → Tells (record g { quiet = q; opposed = o }) m
@@ -142,7 +142,7 @@ keeps-again s g past e one zero (m ∷ k ∷ ms) few all = absurd (omega arith)
 keeps-again s g past e one (suc n) (m ∷ k ∷ ms) few all =
     keeps-like n s m (k ∷ ms ++ past) (keeps-again s g past e one n (k ∷ ms) (omega arith) all.1) (rw e all.0)
 
--- a row goes on with moments that pass
+-- a row continues with moments that pass
 row-on : (test : Moment → Bool) (ms past : List Moment) → AllPass test ms → in_a_row test (ms ++ past) ≡ in_a_row test past + length ms
 row-on test [] past all = omega arith
 row-on test (m ∷ ms) past all = rw (all.0, row-on test ms past all.1) (omega arith)

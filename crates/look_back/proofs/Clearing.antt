@@ -7,7 +7,7 @@ use Rattle.sig_tables.specs.Lesser.{Lesser, InFull, AtMost}
 use Rattle.sig_tables.specs.Goals.{lesser_green}
 use Rattle.preempt_stages.specs.Goals.{ticks_of}
 
--- no more is left than there is, but for the one tick that every green has
+-- no more is left than there is, except the one tick that every green has
 pub left-within : (t : Tables) (i time : ℕ) → time ≤ 2550 → lesser_green t i time ≤ 2550
 left-within t zero time le = le
 left-within t (suc i) time le = omega arith

@@ -73,7 +73,7 @@ counted-on c n version active pressed last before stands mode same (suc k) (m �
     subst (λ (d : Count). CountStands d (counters_since n version (m ∷ i ∷ ms ++ last ∷ before))) (passed-on c k)
     (subst (λ (xs : List ℕ). CountStands (passed 1 (passed (suc k) c)) xs) (sym list) on)
 
--- without a pattern there are none, whatever the moments
+-- without a pattern there are none, for any moments
 pub none-counted : (mode : Mode) (version : ℕ) (before after : List Moment) → ((n : ℕ) → mode ≡ Coord n → ⊥)
     → counters_in mode version before ≡ counters_in mode version after
 none-counted (Coord n) version before after h = absurd (h n refl)

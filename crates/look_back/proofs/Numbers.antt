@@ -21,7 +21,7 @@ row-more old new e test past m stands is = rw (← is) (e ∙ omega (arith, stan
 pub row-ends : (old new : Row) → new.frames ≡ 0 → RowSteps old new false
 row-ends old new e test past m stands is = rw (← is) e
 
--- the frames of a stage go on
+-- the frames of a stage continue
 pub stage-more : (old new : Row) → RowSteps old new true → StagesStep old new true
 stage-more old new steps before past m was is stands =
     let same : before ≡ stage_of m.frame.mode = sym (eq-true (stage_of m.frame.mode) before (sym is)) in

@@ -34,7 +34,7 @@ breaks t inputs past j f told called last is passes =
     let b : breaks_in (preempt_called t inputs past) (last_frame past).mode ≡ true = rw (← called, ← last) (sym is ∙ passes) in
     rw b (ap (λ (i : ℕ). Some (Entry i)) called)
 
--- or none does, and the stage goes on by itself
+-- or none does, and the stage advances by itself
 pub goes-on : (t : Tables) (inputs : List ℕ) (past : List Moment) (j : ℕ) (f : Frame) (told : Bool) (next : Option Mode)
     → j ≡ preempt_called t inputs past → f ≡ last_frame past → told ≡ breaks_in j f.mode → told ≡ false
     → next ≡ stage_after t f.mode inputs past → next ≡ stage_now t inputs past

@@ -1,4 +1,4 @@
--- Moments that go on with the last one: each shows what it showed, and of its ticks the same was seen.
+-- Moments that continue with the last one: each shows what it showed, and of its ticks the same was seen.
 use Rattle.std.specs.Prelude.{ℕ, ◌≡◌, ◌<◌, ◌≤◌, ◌+◌, ◌&&◌, not, min, nat_lt, if◌then◌else◌, true, false, Bool, List, [], ◌∷◌, ◌++◌}
 use Rattle.sig_types.specs.declared.frame.Mode.TheVariants.{Coord}
 use Rattle.sig_types.specs.declared.frame.Frame.{Frame}

@@ -14,7 +14,7 @@ abbrev pub counters_in : Mode → ℕ → List Moment → List ℕ
 counters_in (Coord n) version past = counters_since n version past
 counters_in _ version past = []
 
--- the numbers are those of the counters that go on from the last frame
+-- the numbers are those of the counters that continue from the last frame
 pub record CountingStands (c : Counting) (past : List Moment) : Type 0 where
   pub mode : c.mode ≡ (last_frame past).mode
   pub version : c.version ≡ (last_frame past).version

@@ -125,7 +125,7 @@ impl FrameHistory {
         &self.latched
     }
 
-    /// The counters that go on from the last frame.
+    /// The counters that continue from the last frame.
     pub fn counting(&self) -> Counting
         ensures { (past : List Moment) → LooksOver self.now past → CountingStands result past }
     {

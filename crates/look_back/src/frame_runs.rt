@@ -1,6 +1,5 @@
-//! Runs of frames of which the same is kept. The newest stands apart from the older ones, so
-//! that a frame like the last one is one more of it and nothing else. Of the older ones the last
-//! 4,096 are kept: they reach over 4,096 frames or more.
+//! Runs of frames of which the same is kept. The newest is apart from the older ones, so that a frame like the last one
+//! is one more of it and nothing else. Of the older ones the last 4,096 are kept: they reach over 4,096 frames or more.
 
 ghost use Rattle.std.specs.Prelude.{◌≡◌, ◌<◌, ◌≤◌, ◌+◌, ◌∷◌, ◌++◌, [], length, ℕ, List, min, IfOk};
 ghost use Rattle.circular_buffer.specs.Buffer.{buffer};

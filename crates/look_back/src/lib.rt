@@ -1,5 +1,5 @@
 //! What was seen of a cabinet in its last 4,096 frames and more, and the result of looking back over it: for how many
-//! frames in a row something was so. Frames that show and saw the same are kept as one run with a count, so that the
+//! frames in a row something held. Frames that show and saw the same are kept as one run with a count, so that the
 //! memory is flat and a tick at which nothing changes does little.
 #![tactic(auto)]
 

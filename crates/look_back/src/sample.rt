@@ -78,7 +78,7 @@ impl Sample {
         self.shown.is_same(&other.shown) && self.is_as_seen(other)
     }
 
-    /// Whether of two frames the same is kept beside what they show of the phases.
+    /// Whether of two frames the same is kept in addition to what they show of the phases.
     fn is_as_seen(&self, other: &Sample) -> bool
         ensures { IsTrue result ↔ IsAsSeen self.now other.now }
     {

@@ -13,7 +13,7 @@ use Rattle.scenario_data.specs.declared.scenario.LoadItem.{LoadItem}
 use Rattle.scenario_data.specs.Content.{load_content}
 use Rattle.master_load.specs.Downloads.{AreLoads, IsLoad}
 
--- so many elements after the first ones, with both bounds kept within the list
+-- that many elements after the first ones, with both bounds kept within the list
 within : {A : Type 0} (xs : List A) (n first last : ℕ) → first ≡ min (length xs) n → last ≡ min (length xs) (first + 24)
     → take (last - first) (drop first xs) ≡ take 24 (drop n xs)
 within xs n first last f l = split (nat_le (length xs) n) refl

@@ -27,7 +27,7 @@ cells_in (Some l) = l.cells
 abbrev pub cells_of : List LoadContent → ℕ → List (Cell × Content)
 cells_of loads number = cells_in (load_at loads number)
 
--- so many cells in parts of 24, of which the last may have fewer
+-- that many cells in parts of 24, of which the last may have fewer
 abbrev pub parts_for : ℕ → ℕ
 parts_for count = (count + 23) / 24
 
@@ -51,7 +51,7 @@ abbrev pub frame_text : List ℕ → List LoadContent → LoadFrame → List ℕ
 frame_text community loads frame =
     set_text community frame.id (step_binds frame.load (cells_of (loads_of frame.cab loads) frame.load) frame.step)
 
--- the step after one that was answered well, where the load has so many parts; none after finish
+-- the step after one that was answered without a fault, if the load has this number of parts; none after finish
 abbrev pub step_after : ℕ → Step → Option Step
 step_after parts Begin = Some (Part 1)
 step_after parts (Part k) = if nat_lt k parts then Some (Part (k + 1)) else Some Verify

@@ -1,4 +1,4 @@
--- That a loader stands for what has happened to it.
+-- That a loader represents what has happened to it.
 use Rattle.std.specs.Prelude.{ℕ, ◌≡◌, if◌then◌else◌, List, drop, Option, Some, None}
 use Rattle.std.specs.Option.{ForSome}
 use Rattle.std.specs.List.{slice_get}

@@ -1,5 +1,5 @@
--- What the master does about a cabinet's downloads, by looking back over what it sent and what it was told. Lists of events have
--- the newest first.
+-- What the master does about a cabinet's downloads, by looking back over what it sent and what it got. Lists of events
+-- have the newest first.
 use Rattle.std.specs.Prelude.{ℕ, ℤ, ◌+◌, nat_le, Bool, true, false, if◌then◌else◌, List, [], ◌∷◌, length, Option, Some, None}
 use Rattle.sig_types.specs.declared.notes.MasterNote.{MasterNote}
 use Rattle.sig_types.specs.declared.notes.MasterNote.TheVariants.{LoadDone, LoadRefused}
@@ -11,7 +11,7 @@ use Rattle.master_load.specs.declared.download.Step.TheVariants.{Begin, Finish}
 use Rattle.master_load.specs.declared.download.LoadFrame.{LoadFrame}
 use Rattle.master_load.specs.Downloads.{loads_of, load_at, cells_of, parts_for, step_after}
 
--- what happens to the loader of a cabinet: it is told a message, or it sends a frame
+-- what happens to the loader of a cabinet: it gets a message, or it sends a frame
 pub data LoadEvent : Type 0 where
   AnswerTold : (m : Message) → LoadEvent
   Sent : (frame : LoadFrame) → LoadEvent
@@ -33,7 +33,7 @@ or_now (Some earlier) now m = Some earlier
 or_now None true m = Some m
 or_now None false m = None
 
--- the first Response to the last frame, told since it was sent
+-- the first Response to the last frame, received since it was sent
 abbrev pub answer : List LoadEvent → Option Message
 answer [] = None
 answer (AnswerTold m ∷ past) = or_now (answer past) (answers_frame (last_frame past) m) m
@@ -43,7 +43,7 @@ answer (Sent frame ∷ past) = None
 abbrev pub frame_of : ℕ → ℕ → ℤ → Step → LoadFrame
 frame_of cab load id step = record { cab = cab; load = load; step = step; id = id }
 
--- the begin of the next load of the cabinet, where so many were begun, once its round has come
+-- the begin of the next load of the cabinet, where that many were begun, once its round has come
 abbrev pub begin_where : ℕ → ℕ → ℤ → ℕ → Option LoadContent → Option LoadFrame
 begin_where cab round id begun None = None
 begin_where cab round id begun (Some l) =
@@ -97,6 +97,6 @@ note_where (Some earlier) now made = None
 note_where None true made = made
 note_where None false made = None
 
--- the note of a message that is told: where it is the first answer to the last frame
+-- the note of a message that is reported: where it is the first answer to the last frame
 abbrev pub note_of : List LoadEvent → Message → Option MasterNote
 note_of past m = note_where (answer past) (answers_frame (last_frame past) m) (ending_note (last_frame past) m)

@@ -33,7 +33,7 @@ pub struct LoadFrame {
     pub id: i32,
 }
 
-/// The step after one that was answered well, where the load has so many cells; none after finish.
+/// The step after one that was answered without a fault, if the load has this number of cells; none after finish.
 pub(crate) fn step_after(cells: usize, step: Step) -> Option<Step>
     requires { cells ≤ 768 }
     ensures { result ≡ step_after (parts_for cells) step }
@@ -57,7 +57,7 @@ fn part_cells(cells: &[(Cell, CellValue)], part: u16) -> &[(Cell, CellValue)]
     &cells[first..last]
 }
 
-/// Appends cells with what is to stand in them.
+/// Appends cells with what is to be in them.
 fn push_cells(cells: &[(Cell, CellValue)], binds: &mut ArrayVec<Bind, 32>)
     requires room { array_vec_len binds.old + length cells.now ≤ 32 }
     requires puts { ArePuts (map put_content cells.now) }

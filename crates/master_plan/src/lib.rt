@@ -7,7 +7,7 @@ ghost use Rattle.master_plan.specs.Schedule.{master_clock, or_before, scheduled}
 
 use scenario_data::{Entry, Scenario};
 
-/// The later of an entry, if there is one, and one that stands after it.
+/// The later of an entry, if there is one, and one that follows it.
 fn later(first: Option<Entry>, next: Entry) -> Option<Entry>
     ensures { result ≡ or_before first (Some next) }
 {
@@ -40,7 +40,7 @@ pub fn scheduled(s: &Scenario, section: u8, clock: u32) -> Option<u8>
 /// The ticks of a day.
 const DAY: u64 = 864_000;
 
-/// The time of day after so many rounds of so many ticks.
+/// The time of day after that many rounds of that many ticks.
 fn clock_after(opening: u32, rounds: u32, ticks: u32) -> u32
     ensures clock { result ≡ (opening + rounds * ticks) % 864000 }
     ensures within { result < 864000 }

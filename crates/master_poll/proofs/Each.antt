@@ -1,4 +1,5 @@
--- What the master stands for, sends and notes, cabinet by cabinet: it rests on what has arrived from the cabinets that there are.
+-- What the master represents, sends and notes, cabinet by cabinet: it rests on what has arrived from the cabinets that
+-- there are.
 use Rattle.std.proofs.Common.{◌≡◌, ℕ, zero, suc, ◌+◌, ◌<◌, ◌≤◌, List, [], ◌∷◌, ◌++◌, map, length, get_or, Some, refl, sym, subst, ap, ◌∙◌, arith}
 use Rattle.std.specs.List.{slice_get}
 use Rattle.std.specs.Option.{option_map}
@@ -10,7 +11,7 @@ use Rattle.master_poll.specs.declared.master.Round.{Round}
 use Rattle.master_poll.specs.Sends.{Arrived, sending_of, notes_of}
 use Rattle.master_poll.specs.Masters.{IsRound, MasterStands, ChannelIsAt, frames_of, notes_from, sendings_from, sendings_of}
 
--- the same has arrived from each of so many cabinets, of which the first has this number
+-- the same has arrived from each of that many cabinets, of which the first has this number
 abbrev pub SameFrom : (ℕ → List Arrived) → (ℕ → List Arrived) → ℕ → ℕ → Type 0
 SameFrom a b first count = (cab : ℕ) → first ≤ cab → cab < first + count → a cab ≡ b cab
 

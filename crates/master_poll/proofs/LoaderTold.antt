@@ -1,4 +1,4 @@
--- What a loader is told, message by message.
+-- What a loader gets, message by message.
 use Rattle.std.proofs.Common.{◌≡◌, ℕ, List, [], ◌∷◌, ◌++◌, Option, Some, None, refl}
 use Rattle.arrayvec.specs.ArrayVec.{ArrayVec}
 use Rattle.sig_types.specs.declared.notes.MasterNote.{MasterNote}

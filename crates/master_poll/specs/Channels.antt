@@ -1,4 +1,4 @@
--- That what the master keeps of a cabinet stands for its turns there.
+-- That what the master keeps of a cabinet represents its turns there.
 use Rattle.std.specs.Prelude.{ℕ, ◌≡◌, List, [], ◌∷◌, ◌++◌}
 use Rattle.std.specs.Option.{option_map}
 use Rattle.sig_types.specs.declared.notes.MasterNote.{MasterNote}

@@ -16,14 +16,14 @@ IsTask (Pattern n) = Unit {0}
 IsTask (Clock time) = time < 864000
 IsTask Poll = Unit {0}
 
--- which kinds of command are due
+-- which kinds of command are expected
 pub record Due : Type 0 where
   pub pattern : Bool
   pub clock : Bool
   pub poll : Bool
 
--- the master's turn at a cabinet in a round: the messages that had arrived on the poll stream and on the load stream, the kinds
--- of command that were due, and what was then sent on each of the two
+-- the master's turn at a cabinet in a round: the messages that had arrived on the poll stream and on the load stream,
+-- the kinds of command that were expected, and what was then sent on each of the two
 pub record Turn : Type 0 where
   pub polls : List Message
   pub loads : List Message
@@ -54,7 +54,7 @@ unless_ended (Some m) command = None
 abbrev pub unanswered : List Turn → List Message → Option Command
 unanswered past polls = unless_ended (ending past polls) (open_command past)
 
--- the command was tried so many times
+-- the command was tried that many times
 abbrev pub is_tried : ℕ → Option Command → Bool
 is_tried retries None = false
 is_tried retries (Some c) = nat_le retries c.tries
@@ -63,7 +63,7 @@ is_tried retries (Some c) = nat_le retries c.tries
 abbrev pub gives_up : ℕ → List Turn → List Message → Bool
 gives_up retries past polls = is_tried retries (unanswered past polls)
 
--- a command that was tried so many times is not sent again
+-- a command that was tried that many times is not sent again
 abbrev pub unless_tried : ℕ → Option Command → Option Command
 unless_tried retries command = if is_tried retries command then None else command
 
@@ -95,7 +95,7 @@ acknowledged_by past polls = ended_pattern is_good (open_command past) (ending p
 abbrev pub refused_by : List Turn → List Message → Option ℕ
 refused_by past polls = ended_pattern (λ m. not (is_good m)) (open_command past) (ending past polls)
 
--- a pattern, where it is another than the one before
+-- a pattern, where it differs from the one before
 abbrev pub is_same : Option ℕ → ℕ → Bool
 is_same None n = false
 is_same (Some m) n = m == n

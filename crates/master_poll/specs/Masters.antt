@@ -1,5 +1,5 @@
--- The master's rounds: what it sends to all cabinets and notes of them, and that it stands for what has arrived from each. What has
--- arrived is given by the cabinets' numbers, counted from 1; lists of rounds have the newest first.
+-- The master's rounds: what it sends to all cabinets and notes of them, and that it represents what has arrived from
+-- each. What has arrived is given by the cabinets' numbers, counted from 1; lists of rounds have the newest first.
 use Rattle.std.specs.Prelude.{ℕ, ◌≡◌, ◌+◌, ◌-◌, ◌≤◌, List, [], ◌∷◌, ◌++◌, map, drop, length, Option, Some, None}
 use Rattle.std.specs.List.{slice_get}
 use Rattle.sig_types.specs.declared.notes.MasterNote.{MasterNote}
@@ -44,12 +44,12 @@ notes_from s arrived cab (c ∷ cabinets) = notes_of s cab c (arrived cab) ++ no
 abbrev pub all_notes_of : ScenarioContent → (ℕ → List Arrived) → List MasterNote
 all_notes_of s arrived = notes_from s arrived 1 s.cabinets
 
--- the channel of the cabinet at a place stands for its turns, and so many rounds have been
+-- the channel of the cabinet at a place represents its turns, and that many rounds have been
 pub record ChannelIsAt (p : Channel) (s : ScenarioContent) (place rounds : ℕ) (c : CabinetContent) (arrived : List Arrived) : Type 0 where
   pub stands : ChannelStands p s.master.retries (place + 1) s.loads (turns s (place + 1) c arrived)
   pub count : length arrived ≡ rounds
 
--- each channel stands for what has arrived from its cabinet
+-- each channel represents what has arrived from its cabinet
 abbrev pub EachStands : List Channel → ScenarioContent → ℕ → (ℕ → List Arrived) → Type 0
 EachStands channels s rounds arrived =
     (place : ℕ) (p : Channel) (c : CabinetContent) → slice_get channels place ≡ Some p → slice_get s.cabinets place ≡ Some c
@@ -62,17 +62,17 @@ cabinet_count m = length m.channels.items
 abbrev pub round_count : Master → ℕ
 round_count m = m.rounds
 
--- the master stands for what has arrived from each cabinet
+-- the master represents what has arrived from each cabinet
 abbrev pub MasterStands : Master → ScenarioContent → (ℕ → List Arrived) → Type 0
 MasterStands m s arrived = EachStands m.channels.items s m.rounds arrived
 
--- the channels stand for these rounds, of which the last sends and notes what the definitions say
+-- the channels represent these rounds, of which the last sends and notes what the definitions say
 pub record IsMade (channels : List Channel) (r : Round) (s : ScenarioContent) (rounds : ℕ) (arrived : ℕ → List Arrived) : Type 0 where
   pub stands : EachStands channels s rounds arrived
   pub sendings : map frames_of r.sendings.items ≡ sendings_of s arrived
   pub notes : r.notes.items ≡ all_notes_of s arrived
 
--- what a round gives is that of the definitions, and the master stands for one round more
+-- what a round gives is that of the definitions, and the master represents one round more
 pub record IsRound (m : Master) (r : Round) (s : ScenarioContent) (arrived : ℕ → List Arrived) : Type 0 where
   pub stands : MasterStands m s arrived
   pub sendings : map frames_of r.sendings.items ≡ sendings_of s arrived

@@ -24,7 +24,7 @@ use sig_types::{Answers, MasterNote, Octets, Sending};
 use snmp_msg::Message;
 use std::alloc::AllocError;
 
-/// The loader is told a message; its note, if any, is appended.
+/// The loader gets a message; its note, if any, is appended.
 fn tell(loader: &mut Loader, m: &Message, notes: &mut Vec<MasterNote>) -> Result<(), AllocError>
     ensures stands { OnOk result ((cab : ℕ) (all : List LoadContent) (past : List LoadEvent) → LoaderStands loader.old cab all past → LoaderStands loader.new cab all (AnswerTold m.now ∷ past)) }
     ensures noted { OnOk result ((cab : ℕ) (all : List LoadContent) (past : List LoadEvent) → LoaderStands loader.old cab all past → notes.new.items ≡ notes.old.items ++ noted (note_of past m.now) []) }
@@ -38,7 +38,7 @@ fn tell(loader: &mut Loader, m: &Message, notes: &mut Vec<MasterNote>) -> Result
     }
 }
 
-/// The loader is told each message that arrived on the load stream of its cabinet; its notes are appended.
+/// The loader gets each message that arrived on the load stream of its cabinet; its notes are appended.
 fn hear(
     loader: &mut Loader,
     arrived: &[Octets],

@@ -28,7 +28,7 @@ pub struct CommandState {
     ghost tried: { ForSome command (λ c. 1 ≤ c.tries) },
 }
 
-/// Whether something is done in a round that is done every so many; 0 is never.
+/// Whether something is done in a round that is done every that many; 0 is never.
 fn is_round(every: u32, round: u32) -> bool
     ensures { result ≡ is_round every round }
 {
@@ -70,7 +70,8 @@ impl CommandState {
         }
     }
 
-    /// The open command is given up where it was tried so many times without a Response. Gives what is to be noted of it.
+    /// The open command is given up where it was tried that many times without a Response. Gives what is to be noted of
+    /// it.
     fn give_up(&mut self, retries: u32) -> Turned
         ensures settles { Settles self.old self.new result retries None }
         ensures tries { ForSome self.new.command (λ c. c.tries < retries) }
@@ -130,7 +131,7 @@ impl CommandState {
         turned
     }
 
-    /// Marks what is due in a round.
+    /// Marks what is expected in a round.
     fn mark(&mut self, setup: &MasterSetup, now: Now)
         ensures pattern { self.new.pattern_waits ≡ (wants_pattern self.old.acknowledged self.old.refused (is_round setup.now.pattern_every now.round) now.pattern || self.old.pattern_waits) }
         ensures clock { self.new.clock_waits ≡ (is_round setup.now.clock_every now.round || self.old.clock_waits) }
@@ -176,7 +177,7 @@ impl CommandState {
         });
     }
 
-    /// Sends the open command again, or the first kind that waits anew.
+    /// Sends the open command again, or the first kind that waits again.
     fn send(&mut self, now: Now)
         requires few { self.old.sent < 2147483646 }
         requires tries { ForSome self.old.command (λ c. c.tries < 4294967295) }

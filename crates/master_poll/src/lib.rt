@@ -1,5 +1,6 @@
-//! The master at each cabinet: what it sends to each cabinet in a round, and what it notes, as the replies come in. Polls, patterns and
-//! clocks go out again until they are answered or given up; downloads beside them (requests of RFC 1157).
+//! The master at each cabinet: what it sends to the cabinet in a round, and what it notes from the replies. Polls,
+//! patterns and clocks are sent again until they are answered or given up; downloads are sent in addition (requests of
+//! RFC 1157).
 #![tactic(auto)]
 
 mod channel;

@@ -54,7 +54,7 @@ fn now_at(s: &Scenario, cabinet: &Cabinet, round: u32, clock: u32) -> Now
     }
 }
 
-/// So many channels to which nothing was sent yet.
+/// That many channels to which nothing was sent yet.
 fn new_channels(alloc: Global, count: usize) -> Result<Vec<Channel>, AllocError>
     ensures count { IfOk result (λ channels. length channels.items ≡ count) }
     ensures new { IfOk result (λ channels. All IsNew channels.items) }

@@ -84,7 +84,7 @@ delivers s cab c answered sending is =
     ap (λ polls. deliveries s cab polls (sent_text sending.load ∷ loads_before s cab c answered)) (polls_go s cab c answered sending is)
     ∙ (ap (λ loads. deliveries s cab (polls_sent s cab c answered) loads) (loads_go s cab c answered sending is) ∙ are_delivered s cab c answered)
 
--- and the link stands for what was sent with this round
+-- and the link represents what was sent with this round
 pub link_goes : (link : Link) (s : ScenarioContent) (place : ℕ) (c : CabinetContent) (answered : List (List Reply)) (replied : Passed) (sending : Sending)
     → frames_of sending ≡ sending_of s (place + 1) c (arrivals s (place + 1) answered)
     → LinkStands link s place (sent_text sending.poll ∷ polls_before s (place + 1) c answered) (sent_text sending.load ∷ loads_before s (place + 1) c answered) replied
@@ -107,7 +107,7 @@ pub has_lines : (d : MasterRounds) (s : ScenarioContent) (place : ℕ) (c : Cabi
     → place < link_count d.link
 has_lines d s place c count there = omega (arith, d.same_link, count, slice_get_within s.cabinets place c there)
 
--- the round to come is the one behind those so far
+-- the round to come is the one after those so far
 pub comes_next : (d : MasterRounds) (s : ScenarioContent) (done round : ℕ) (answered : ℕ → List (List Reply)) → MasterRoundsStands d s done answered → round ≡ rounds_begun d + 1
     → (place : ℕ) (c : CabinetContent) → slice_get s.cabinets place ≡ Some c
     → round ≡ length (polls_before s (place + 1) c (answered (place + 1))) + 1

@@ -1,5 +1,5 @@
--- What the master and the link have come to between two rounds, as a function of what a cabinet has answered so far. Lists of rounds
--- have the newest first.
+-- What the master and the link have reached between two rounds, as a function of what a cabinet has answered so far.
+-- Lists of rounds have the newest first.
 use Rattle.std.specs.Prelude.{ℕ, ◌+◌, ◌≡◌, ◌<◌, List, [], ◌∷◌, map, length, get_or}
 use Rattle.sig_types.specs.declared.streams.Answers.{Answers}
 use Rattle.sig_types.specs.Items.{texts_of}

@@ -18,7 +18,7 @@ use Rattle.master_poll.specs.Sends.{Arrived, Frames, sending_of, notes_of}
 abbrev pub arriving_on : ScenarioContent → ℕ → Way → List (List Reply) → List (List ℕ)
 arriving_on s cab way answered = returning s cab way (map (replied_on (pass_of way)) answered)
 
--- what of the replies of these rounds had arrived at the master's turn in the round behind them
+-- what of the replies of these rounds had arrived at the master's turn in the round after them
 abbrev pub arrived_of : ScenarioContent → ℕ → List (List Reply) → Arrived
 arrived_of s cab answered = record { polls = arriving_on s cab Poll answered; loads = arriving_on s cab Load answered }
 
@@ -39,7 +39,8 @@ polls_sent s cab c answered = map (λ f. option_to_list f.poll) (sendings s cab 
 abbrev pub loads_sent : ScenarioContent → ℕ → CabinetContent → List (List Reply) → List (List (List ℕ))
 loads_sent s cab c answered = map (λ f. option_to_list f.load) (sendings s cab c (arrivals s cab answered))
 
--- the octets that reach the cabinet on a stream in the round to come; the priority requests rest on the number of rounds alone
+-- the octets that reach the cabinet on a stream in the next round; the priority requests depend only on the number of
+-- rounds
 abbrev pub delivered_on : ScenarioContent → ℕ → CabinetContent → List (List Reply) → Way → List (List ℕ)
 delivered_on s cab c answered Poll = reaching s cab Poll (polls_sent s cab c answered)
 delivered_on s cab c answered Load = reaching s cab Load (loads_sent s cab c answered)

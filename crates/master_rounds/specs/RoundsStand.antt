@@ -1,5 +1,5 @@
--- That master and line stand for what the cabinets have answered so far, by their numbers, which are counted from 1. Lists of rounds have the
--- newest first.
+-- That master and line represent what the cabinets have answered so far, by their numbers, which are counted from 1.
+-- Lists of rounds have the newest first.
 use Rattle.std.specs.Prelude.{ℕ, ◌+◌, ◌≡◌, ◌<◌, List, length, Some}
 use Rattle.std.specs.List.{slice_get}
 use Rattle.sig_types.specs.Replies.{Reply}
@@ -17,8 +17,8 @@ cabinet_count d = length d.arrived.items
 abbrev pub rounds_begun : MasterRounds → ℕ
 rounds_begun d = round_count d.master
 
--- between two rounds, after so many: the master stands for what had arrived at its turns, the link for what was sent and replied, and
--- what has arrived since is kept
+-- between two rounds, after that many: the master represents what had arrived at its turns, the link for what was sent
+-- and replied, and what has arrived since is kept
 pub record MasterRoundsStands (d : MasterRounds) (s : ScenarioContent) (done : ℕ) (answered : ℕ → List (List Reply)) : Type 0 where
   pub cabinets : cabinet_count d ≡ length s.cabinets
   pub rounds : rounds_begun d ≡ done

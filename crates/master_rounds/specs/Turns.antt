@@ -1,5 +1,5 @@
--- What a round of master and line begins with, and what master and line stand for after its beginning and after its end, whatever the
--- cabinets have answered so far. Lists of rounds have the newest first.
+-- What a round of master and line begins with, and what master and line represent after its beginning and after its
+-- end, whatever the cabinets have answered so far. Lists of rounds have the newest first.
 use Rattle.std.specs.Prelude.{ℕ, List}
 use Rattle.sig_types.specs.declared.streams.Answers.{Answers}
 use Rattle.sig_types.specs.Replies.{Reply}
@@ -10,7 +10,7 @@ use Rattle.master_rounds.specs.Answered.{AreAllReplies, with_replies}
 use Rattle.master_rounds.specs.Begun.{IsBegun}
 use Rattle.master_rounds.specs.RoundsStand.{HasBegun, MasterRoundsStands}
 
--- the round begins with the notes and the streams that are due by what the cabinets have answered
+-- the round begins with the notes and the streams that are expected by what the cabinets have answered
 abbrev pub BeginsAsDue : MasterRounds → ScenarioContent → Begun → Type 0
 BeginsAsDue old s b = (done : ℕ) (answered : ℕ → List (List Reply)) → MasterRoundsStands old s done answered → IsBegun b s answered
 
@@ -19,7 +19,7 @@ abbrev pub StandsBegun : MasterRounds → MasterRounds → ScenarioContent → �
 StandsBegun old new s round =
     (done : ℕ) (answered : ℕ → List (List Reply)) → MasterRoundsStands old s done answered → HasBegun new s round answered
 
--- no round has begun: master and line stand between the same two rounds as before
+-- no round has begun: master and line are between the same two rounds as before
 abbrev pub StandsBetween : MasterRounds → MasterRounds → ScenarioContent → Type 0
 StandsBetween old new s =
     (done : ℕ) (answered : ℕ → List (List Reply)) → MasterRoundsStands old s done answered → MasterRoundsStands new s done answered

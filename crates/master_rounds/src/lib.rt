@@ -1,5 +1,5 @@
-//! Master and line as one: the master, and the link with its faults. A round begins with what the master notes and with the
-//! streams that reach each cabinet, and ends with what the cabinets have answered.
+//! Master and link as one: the master, and the link with its faults. A round begins with what the master notes and with
+//! the streams that reach each cabinet, and ends with what the cabinets have answered.
 #![tactic(auto)]
 
 mod master_rounds;

@@ -29,7 +29,7 @@ pub struct MasterRounds {
     ghost same_link: { link_count link ≡ length arrived.items },
 }
 
-/// Nothing has arrived from so many cabinets.
+/// Nothing has arrived from that many cabinets.
 fn nothing_from(alloc: Global, count: usize) -> Result<Vec<Answers>, AllocError>
     ensures count { IfOk result (λ all. length all.items ≡ count) }
     ensures none { IfOk result (λ all. All IsEmpty all.items) }
@@ -100,9 +100,9 @@ impl MasterRounds {
         }
     }
 
-    /// Ends the round that has begun, in which the cabinets have answered this, in their order: what of it goes over the link arrives
-    /// for the master's turn in the next round. Where memory is wanting master and line stay in the middle of the round, and it may end
-    /// again.
+    /// Ends the round that has begun, in which the cabinets have answered this, in their order: what of it goes over
+    /// the link arrives for the master's turn in the next round. Where memory ran out master and line stay in the
+    /// middle of the round, and it may end again.
     pub fn end(&mut self, alloc: Global, round: u32, answers: &[Answers]) -> Result<(), NoMemory>
         requires each { length answers.now ≡ cabinet_count self.old }
         ensures stands { OnOk result ((s : ScenarioContent) → StandsEnded self.old self.new s round answers.now) }

@@ -1,6 +1,6 @@
-//! How a round follows from the rounds before it: what the master sends to a cabinet rests on what has arrived of the cabinet's
-//! replies, and what reaches the cabinet on what was sent. The definitions are in specs/Rounds.antt; they stand apart since the
-//! master and the link know nothing of each other.
+//! How a round follows from the rounds before it: what the master sends to a cabinet rests on what has arrived of the
+//! cabinet's replies, and what reaches the cabinet on what was sent. The definitions are in specs/Rounds.antt; they are
+//! apart since the master and the link know nothing of each other.
 ghost use Rattle.std.specs.Prelude.{ℕ, ◌≡◌, ◌+◌, List, length};
 ghost use Rattle.scenario_data.specs.Content.{ScenarioContent, CabinetContent};
 ghost use Rattle.sig_types.specs.Replies.{Reply};

@@ -113,7 +113,7 @@ fn the_longest_answer_fits(rt: HostRuntime) -> Result<(), Fail> {
 const FINISH: &str =
     "303e02010004067075626c6963a33102010102010002010030263011060c2b0601040181fd59010103000201073011060c2b0601040181fd5901010600020101";
 
-/// What the stage answers to a finish, and the status and index that tell so.
+/// What the stage answers to a finish, and the status and index that say so.
 const TOLD: [(StageAnswer, i32, i32); 5] = [
     (StageAnswer::Accepted, 0, 0),
     (StageAnswer::WrongToken, 3, 1),
@@ -122,7 +122,7 @@ const TOLD: [(StageAnswer, i32, i32); 5] = [
     (StageAnswer::Refused(Broken { rule: 10, row: 3 }), 5, 2),
 ];
 
-/// Each answer of the stage is told by its status and index, with the bindings of the request.
+/// Each answer of the stage is determined by its status and index, with the bindings of the request.
 fn are_told(rt: &impl Abort, request: &[u8], rows: &[(StageAnswer, i32, i32)]) -> Result<(), Fail> {
     let sent = read(request).ok_or("no message")?;
     for (stage, status, index) in rows {

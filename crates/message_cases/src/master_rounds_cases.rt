@@ -25,8 +25,8 @@ fn fault(round: u32, way: Direction, index: u32, kind: FaultKind) -> Fault {
     }
 }
 
-/// In the first round the frame comes twice, and the second reply is lost; in the second the frame comes again a round later, and
-/// the first reply is lost.
+/// In the first round the frame comes twice, and the second reply is lost; in the second the frame is repeated a round
+/// later, and the first reply is lost.
 fn faults(alloc: Global) -> Result<Vec<Fault>, AllocError>
     ensures { IfOk result (λ faults. length faults.items ≡ 4) }
 {
@@ -38,7 +38,7 @@ fn faults(alloc: Global) -> Result<Vec<Fault>, AllocError>
     ]?)
 }
 
-/// Frames with these octets; an empty text stands for no frame.
+/// Frames with these octets; an empty text represents no frame.
 fn frames(alloc: Global, texts: &[&str; 2]) -> Result<Vec<Octets>, Fail> {
     let mut all = Vec::new(alloc);
     for text in texts {

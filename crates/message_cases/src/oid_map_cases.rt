@@ -6,7 +6,7 @@ use ber_code::Oid;
 use oid_map::*;
 use sig_tables::Cell;
 
-/// Where the objects of NTCIP 1202 (asc) and those of the project (own) stand.
+/// Where the objects of NTCIP 1202 (asc) and those of the project (own) are.
 #[derive(Clone, Copy)]
 pub(crate) enum Root {
     Asc,
@@ -220,8 +220,8 @@ fn what_is_shown_and_taken_has_names(rt: HostRuntime) {
     }
 }
 
-/// Names beside those of objects: a column or a row too many or too few, an arc too many or too few,
-/// and arcs that would be good if only their last eight bits counted.
+/// Names in addition to those of objects: a column or a row too many or too few, an arc too many or too few, and arcs
+/// that would be good if only their last eight bits counted.
 const NO_OBJECTS: [(Root, &[u32]); 26] = [
     (Asc, &[]),
     (Asc, &[1, 2, 1]),

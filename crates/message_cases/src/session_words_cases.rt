@@ -139,7 +139,7 @@ fn comes(lines: &mut LineReader, source: &mut MemSource, due: &[u8]) -> bool {
     lines.next(source) == Ok(Next::Line) && lines.line() == due
 }
 
-/// Whether the lines of the text behind its first come next.
+/// Whether the lines of the text after its first come next.
 fn others_come(lines: &mut LineReader, source: &mut MemSource) -> bool {
     comes(lines, source, b"tick 1")
         && comes(lines, source, b"")
@@ -150,7 +150,7 @@ fn others_come(lines: &mut LineReader, source: &mut MemSource) -> bool {
         && lines.next(source) == Ok(Next::End)
 }
 
-/// Whether the lines of the text come where a read gives at most so many octets.
+/// Whether the lines of the text come where a read gives at most that many octets.
 fn come_in_pieces(alloc: Global, text: &[u8], most: usize) -> Result<bool, Fail>
     requires { 0 < most }
 {

@@ -8,7 +8,7 @@ use Rattle.snmp_msg.specs.declared.message.Value.{Value}
 use Rattle.snmp_msg.specs.declared.message.Value.TheVariants.{Int, Octets, Null, Name}
 use Rattle.snmp_msg.specs.declared.message.Bind.{Bind}
 
--- the texts, each behind the separator
+-- the texts, each after the separator
 abbrev pub each_behind : ℕ → List (List ℕ) → List ℕ
 each_behind separator [] = []
 each_behind separator (text ∷ texts) = separator ∷ (text ++ each_behind separator texts)
@@ -29,7 +29,7 @@ pdu_word Set = codes "set"
 abbrev pub name_word : List ℕ → List ℕ
 name_word arcs = joined 46 (map decimal arcs)
 
--- the kind of a value, and behind a colon what it holds
+-- the kind of a value, and after a colon what it holds
 abbrev pub value_word : Value → List ℕ
 value_word (Int n) = codes "int:" ++ signed_decimal n
 value_word (Octets octets) = codes "octets:" ++ encode_lower octets.items

@@ -74,7 +74,7 @@ fn line_of_message(alloc: Global, m: &Message) -> Result<Vec<u8>, AllocError>
     Ok(out)
 }
 
-/// The words of the fields, each behind a space.
+/// The words of the fields, each after a space.
 fn fields(alloc: Global, out: &mut Vec<u8>, m: &Message) -> Result<(), AllocError>
     ensures { OnOk result (out.new.items ≡ out.old.items ++ each_behind 32 (field_words m.now)) }
 {
@@ -83,7 +83,7 @@ fn fields(alloc: Global, out: &mut Vec<u8>, m: &Message) -> Result<(), AllocErro
     bindings(alloc, out, m.binds.as_slice())
 }
 
-/// Community and kind, each behind a space.
+/// Community and kind, each after a space.
 fn heading(alloc: Global, out: &mut Vec<u8>, community: &[u8], kind: Pdu) -> Result<(), AllocError>
     ensures { OnOk result (out.new.items ≡ out.old.items ++ each_behind 32 (encode_lower community.now ∷ pdu_word kind ∷ [])) }
 {
@@ -92,14 +92,14 @@ fn heading(alloc: Global, out: &mut Vec<u8>, community: &[u8], kind: Pdu) -> Res
     pdu(out, kind)
 }
 
-/// Id, status and index, each behind a space.
+/// Id, status and index, each after a space.
 fn ids(out: &mut Vec<u8>, m: &Message) -> Result<(), AllocError>
     ensures { OnOk result (out.new.items ≡ out.old.items ++ each_behind 32 (signed_decimal m.now.id ∷ signed_decimal m.now.status ∷ signed_decimal m.now.index ∷ [])) }
 {
     numbers(out, m.id, m.status, m.index)
 }
 
-/// Three numbers, each behind a space.
+/// Three numbers, each after a space.
 fn numbers(out: &mut Vec<u8>, first: i32, second: i32, third: i32) -> Result<(), AllocError>
     ensures { OnOk result (out.new.items ≡ out.old.items ++ each_behind 32 (signed_decimal first ∷ signed_decimal second ∷ signed_decimal third ∷ [])) }
 {

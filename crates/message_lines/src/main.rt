@@ -1,6 +1,6 @@
-//! Tries octets as SNMP messages: for each line of hexadecimal digits on standard input, one line on
-//! standard output, with the message's shortest text and its fields, or `none` where the line writes
-//! no message. How anyone can see what this bench reads.
+//! Tries octets as SNMP messages: for each line of hexadecimal digits on standard input, one line on standard output,
+//! with the message's shortest text and its fields, or `none` if the line isn't a message. With it anyone can see how
+//! this test bench reads messages.
 #![tactic(auto)]
 
 mod line;

@@ -31,7 +31,7 @@ fn name(out: &mut Vec<u8>, arcs: &[u32]) -> Result<(), AllocError>
     later_arcs(out, later)
 }
 
-/// Arcs, each behind a dot.
+/// Arcs, each after a dot.
 fn later_arcs(out: &mut Vec<u8>, arcs: &[u32]) -> Result<(), AllocError>
     ensures { OnOk result (out.new.items ≡ out.old.items ++ each_behind 46 (map decimal arcs.now)) }
 {
@@ -72,7 +72,7 @@ fn binding(alloc: Global, out: &mut Vec<u8>, bind: &Bind) -> Result<(), AllocErr
     value(alloc, out, &bind.value)
 }
 
-/// The bindings, each behind a space.
+/// The bindings, each after a space.
 pub fn bindings(alloc: Global, out: &mut Vec<u8>, binds: &[Bind]) -> Result<(), AllocError>
     ensures { OnOk result (out.new.items ≡ out.old.items ++ each_behind 32 (map binding_word binds.now)) }
 {

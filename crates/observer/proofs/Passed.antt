@@ -30,7 +30,7 @@ use Rattle.look_back.specs.Again.{FrameGoesOn, AllGoOn}
 use Rattle.look_back.specs.FrameHistories.{LooksOver}
 use Rattle.observer.specs.Inputs.{AreOn, seen-on}
 
--- what is remembered, but for what is looked over
+-- what is remembered, except what is looked over
 pub record ToldBack (on : PhaseSet) (past : Past) : Type 0 where
   pub inputs : AreOn on past
   pub within : (n : ℕ) → is_in_step (frame_seen past) past.version n ≡ true → (frame_seen past).counter < cycle_time past.tables n
@@ -113,7 +113,7 @@ counter-goes (Track i) j past l g n e = absurd l.goes
 counter-goes (Dwell i) j past l g n e = absurd l.goes
 counter-goes (Exit i) j past l g n e = absurd l.goes
 
--- such a tick goes on with the last frame
+-- such a tick continues with the last frame
 goes-next : (mode : Mode) (j : ℕ) (s : TickInputs) (past : Past) → Lasts mode (suc j) past → Looks (bound mode) s past
     → FrameGoesOn s.active s.opposed (next_moment past) past.moments
 goes-next mode j s past l looks =
@@ -142,7 +142,7 @@ all-go-on (suc k) j mode s past l looks =
       all-go-on k (suc j) mode s past more looks,
     )
 
--- what goes on with moments of which there is one at least
+-- what continues with moments of which there is one at least
 pub pushed : (old new : FrameHistory) (active opposed : PhaseSet) (n : ℕ) (past ms : List Moment)
     → ((last : Moment) (before rest : List Moment) → LooksOver old (last ∷ before) → length rest ≡ n → last.frame.counter + n ≤ 4294967295
     → AllGoOn active opposed rest (last ∷ before) → LooksOver new (rest ++ last ∷ before))

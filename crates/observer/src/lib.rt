@@ -1,5 +1,5 @@
-//! The observer of a cabinet: the engine over a memory that looks back over the frames that were seen of it. It keeps no clock and
-//! no register; only the check of a trace takes it.
+//! The observer of a cabinet: the engine over a memory that looks back over the frames that were seen of it. It keeps
+//! no clock and no register; only the check of a trace uses it.
 #![tactic(auto)]
 
 ghost use Rattle.std.specs.Prelude.{◌≡◌, ◌==◌, ◌<◌, ◌≤◌, if◌then◌else◌, ℕ, ◌∷◌, [], IfOk};
@@ -51,7 +51,7 @@ impl LookingBack {
     ghost use Rattle.sig_tables.specs.Decide.{past_at, opening};
     ghost use Rattle.observer.specs.LookingBack.{SeesBack, frames};
 
-    /// Of the moment before any tick of a cabinet that is opened with these tables.
+    /// What was seen at the moment before any tick of a cabinet that is opened with these tables.
     fn open(alloc: Global, tables: &Tables) -> Result<LookingBack, NoMemory>
         ensures stands { IfOk result (λ m. (command clock : ℕ) → SeesBack m (past_at (opening tables.now command clock))) }
         ensures frames { IfOk result (λ m. frames m ≡ 0) }
@@ -265,9 +265,9 @@ ghost use Rattle.sig_tables.specs.Decide.{opening};
 ghost use Rattle.tick_context.specs.CanRun.{CanRun};
 ghost use Rattle.observer.specs.ObserverStands.{ObserverStands, tick_count, install_count};
 
-/// The observer of a cabinet that is opened with these tables, in Start, with a pattern in command, 0 to 255 (254 and those that
-/// are not defined run free, 255 flashes), and a clock in ticks of the day. The tables' limits of adding and subtracting are at
-/// least one tick, as those of consistent tables are.
+/// The observer of a cabinet that is opened with these tables, in Start, with a commanded pattern from 0 to 255 (254
+/// and undefined patterns run free, 255 flashes), and a clock in ticks of the day. The add and skip limits of the
+/// tables are at least one tick, as in all consistent tables.
 pub fn open(
     alloc: Global,
     tables: sig_tables::Tables,

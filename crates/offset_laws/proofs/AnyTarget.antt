@@ -1,4 +1,4 @@
--- What holds of the counter whatever the targets are.
+-- What holds of the counter for any targets.
 use Rattle.std.proofs.Common.{◌≡◌, ◌⊎◌, inl, inr, ℕ, zero, suc, Bool, true, false, not, nat_le, ◌==◌, ◌&&◌, ◌||◌, if◌then◌else◌, ◌+◌, ◌<◌, ◌≤◌, max, List, ◌∷◌, refl, sym, subst, arith}
 use Rattle.std.proofs.lemmas.Bool.{cases_order, leb-false, eqb-true}
 use Rattle.sig_tables.specs.Counting.{Correction, HasRoom, tick_later, ahead, adds_sooner, dwelling, adding, skipping, stands, last_step_changed, begins_cycle, next_counter, corrected, counter_after, last_counter, most_a_cycle}
@@ -8,11 +8,11 @@ use Rattle.offset_laws.specs.Stepping.{KeepsLimits, to_zero, StepsOn, ZeroComes}
 use Rattle.offset_laws.proofs.Steps.{later-within, later-end}
 use Rattle.offset_laws.proofs.Looks.{other, stands-stood, stands-moved, begins-at}
 
--- where the step stands, a stand was left in the cycle
+-- where the step waits, a wait was left in the cycle
 abbrev HasStand : Correction → List ℕ → ℕ → ℕ → Type 0
 HasStand k past c d = d ≡ c → stands past < most_a_cycle k
 
--- a step, and what was left to stand
+-- a step, and what was left to wait
 pub record Goes (k : Correction) (past : List ℕ) (c d : ℕ) : Type 0 where
   pub how : Steps k.cycle k.window c d
   pub room : HasStand k past c d

@@ -31,7 +31,7 @@ adds-none k t c before e left x z = record {
       = inl (omega arith, omega arith);
 }
 
--- a stand in front adds one
+-- a wait in front adds one
 adds-one : (k : Correction) (t c : ℕ) (before : List ℕ) (e left : ℕ) → next_counter k (c ∷ before) (tick_later k.cycle t) ≡ c
     → AddsUp k (tick_later k.cycle t) c (c ∷ before) (e + 1) left → AddsUp k t c before e (suc left)
 adds-one k t c before e left is x = record {
@@ -44,7 +44,7 @@ adds-one k t c before e left is x = record {
   to = elim x.to [ inl h ↦ inl (omega arith, omega arith) | inr h ↦ inr (omega arith, h.1) ];
 }
 
--- the last stand brings the counter onto the target
+-- the last wait brings the counter onto the target
 adds-last : (k : Correction) (t c : ℕ) (before : List ℕ) (e left : ℕ) → e + 1 ≡ k.cycle → next_counter k (c ∷ before) (tick_later k.cycle t) ≡ c
     → Ends k (tick_later k.cycle t) c (c ∷ before) 0 → AddsUp k t c before e (suc left)
 adds-last k t c before e left full is x = record {
@@ -70,7 +70,7 @@ adds-plain k t c before e left is x = record {
   to = x.to;
 }
 
--- dwelling, with so many stands left
+-- dwelling, with that many waits left
 pub dwell-cycle : (left : ℕ) (k : Correction) (t : ℕ) (before : List ℕ) (e : ℕ) → HasRoom k → k.mode ≡ 2 → At k.cycle t 0 e → 1 ≤ e
     → stands (0 ∷ before) + left ≡ k.dwell → AddsUp k t 0 before e left
 dwell-cycle zero k t before e room mode a some all =
@@ -111,7 +111,7 @@ still-subtracts k e room h =
     = fewer-steps (k.cycle - (e + 1)) (k.cycle - e) k.add room.add (omega arith) in
     (h.0, exceeds (steps_for (k.cycle - e) k.add) (steps_for e k.subtract) (omega arith))
 
--- adding, with so many stands left: one at each second tick, so that the counter is the number of stands
+-- adding, with that many waits left: one at each second tick, so that the counter is the number of waits
 pub add-cycle : (left : ℕ) (k : Correction) (t c : ℕ) (before : List ℕ) (e : ℕ) → HasRoom k → Adds k e → At k.cycle t c e → 1 ≤ e
     → stands (c ∷ before) ≡ c → last_step_changed (c ∷ before) ≡ true → c + left ≡ k.add → AddsUp k t c before e left
 add-cycle zero k t c before e room mode a some stood moved all =
@@ -165,7 +165,7 @@ takes-none k t c before e left x z = record {
   to = (omega arith, elim z [ inl h ↦ inl (omega arith) | inr h ↦ inr h ]);
 }
 
--- skipping, with so many skips left: the counter is twice the number of skips
+-- skipping, with that many skips left: the counter is twice the number of skips
 pub skip-cycle : (left : ℕ) (k : Correction) (t c : ℕ) (before : List ℕ) (e : ℕ) → HasRoom k → Subtracts k e → At k.cycle t c e
     → 2 * skips (c ∷ before) ≡ c → skips (c ∷ before) + left ≡ k.subtract → TakesOff k t c before e left
 skip-cycle zero k t c before e room mode a twice all =

@@ -85,8 +85,7 @@ gains-tick k most t c before e room three a some goes = elim (cases_order (e + 1
   | inr (inr more) ↦ absurd (let below : e < k.cycle = a.error in omega arith)
 ]
 
--- ---- the cycle
--- counter and target meet within so many ticks
+-- ---- the cycle counter and target meet within that many ticks
 pub record Meeting (k : Correction) (m : ℕ) (drifts : ℕ → Drift) (t : ℕ) (past : List ℕ) : Type 0 where
   pub ticks : ℕ
   pub within : ticks ≤ m
@@ -168,7 +167,7 @@ turns-now k most spare m drifts t past f begins a some few =
       few = few;
     })
 
--- with no drift in so many ticks
+-- with no drift in that many ticks
 pub quiet-run : (m : ℕ) (k : Correction) (most spare : ℕ) (drifts : ℕ → Drift) (t c : ℕ) (before : List ℕ) (e : ℕ) → HasRoom k → KeepsLimits k (c ∷ before)
     → to_zero k (c ∷ before) ≤ m → ((i : ℕ) → i < m → drifts i ≡ Even) → At k.cycle t c e → 1 ≤ e → Goes k most spare c before e
     → Meeting k m drifts t (c ∷ before) ⊎ Turning k most spare m drifts t (c ∷ before)

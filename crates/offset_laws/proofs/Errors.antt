@@ -71,7 +71,7 @@ plain-keeps cycle t c e a =
     numbers cycle t c e d b hc ht he hd (inr x) (inr y) (inl z) = absurd (omega arith)
     numbers cycle t c e d b hc ht he hd (inr x) (inr y) (inr z) = absurd (omega arith)
 
--- a stand puts the target one tick further ahead, and no further than the cycle
+-- a wait puts the target one tick further ahead, and no further than the cycle
 pub stand-adds : (cycle t c e : ℕ) → At cycle t c e → e + 1 < cycle → At cycle (tick_later cycle t) c (e + 1)
 stand-adds cycle t c e a room =
     let l : Later cycle t (tick_later cycle t) = later cycle t a.target in
@@ -84,7 +84,7 @@ stand-adds cycle t c e a room =
     numbers cycle t c e d hc room (inr x) (inl y) = inr (omega arith)
     numbers cycle t c e d hc room (inr x) (inr y) = absurd (omega arith)
 
--- the last stand brings the counter onto the target
+-- the last wait brings the counter onto the target
 pub stand-ends : (cycle t c e : ℕ) → At cycle t c e → e + 1 ≡ cycle → At cycle (tick_later cycle t) c 0
 stand-ends cycle t c e a full =
     let l : Later cycle t (tick_later cycle t) = later cycle t a.target in

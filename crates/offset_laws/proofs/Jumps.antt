@@ -5,7 +5,7 @@ use Rattle.sig_tables.specs.Counting.{tick_later, steps_for}
 use Rattle.offset_laws.proofs.Steps.{one-step, step-more, fewer-steps, later-within, later-end}
 use Rattle.offset_laws.proofs.Errors.{At}
 
--- one step holds so many ticks more, and one tick more takes at most one step more
+-- one step holds that many ticks more, and one tick more takes at most one step more
 pub step-holds : (x most : ℕ) → 1 ≤ most → steps_for (x + most) most ≤ steps_for x most + 1
 step-holds zero most h =
     let e : 0 + most ≡ most = omega arith in

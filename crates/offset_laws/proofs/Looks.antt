@@ -17,14 +17,14 @@ fits a b h = grind (arith, nat_tests)
 pub exceeds : (a b : ℕ) → b < a → nat_le a b ≡ false
 exceeds a b h = grind (arith, nat_tests)
 
--- a counter above 0 has not changed to it, nor has one that stands
+-- a counter above 0 has not changed to it, nor has one that waits
 pub counts-on : (d c : ℕ) → 1 ≤ d → changes_to_zero d c ≡ false
 counts-on d c h = rw (other d 0 (omega arith)) refl
 
 pub stood-there : (c : ℕ) → changes_to_zero c c ≡ false
 stood-there c = elim (eqb_tells c 0) [ inl h ↦ rw h.0 refl | inr h ↦ rw h.0 refl ]
 
--- a stand
+-- a wait
 pub stands-stood : (c : ℕ) (before : List ℕ) → stands (c ∷ c ∷ before) ≡ stands (c ∷ before) + 1
 stands-stood c before = rw (stood-there c, same c) refl
 
@@ -44,7 +44,7 @@ skips-plain d c before e = rw (counts-on d c (omega arith), other d (c + 2) (ome
 pub skips-skipped : (d c : ℕ) (before : List ℕ) → d ≡ c + 2 → skips (d ∷ c ∷ before) ≡ skips (c ∷ before) + 1
 skips-skipped d c before e = rw (counts-on d c (omega arith), (Decides-eqb d (c + 2)).1 e) refl
 
--- a cycle that has just begun: nothing stood or skipped, and the last step counts as a change
+-- a cycle that has just begun: nothing waited or skipped, and the last step counts as a change
 pub record Begun (past : List ℕ) : Type 0 where
   pub before : List ℕ
   pub is : past ≡ 0 ∷ before

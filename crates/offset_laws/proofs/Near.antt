@@ -206,7 +206,7 @@ drift-off k t c before Loses room short can a =
     subst (λ (y : ℕ). Stands_off k y (next_counter k (c ∷ before) y)) j.2 (off-tick k j.0 c before (k.cycle - 1) room j.1 (loses-off k
     (k.cycle - 1) room (omega arith)))
 
--- the target one tick behind, or ahead
+-- the target one tick after, or ahead
 behind : (k : Correction) (t c e : ℕ) → HasRoom k → At k.cycle t c e → e + 1 ≡ k.cycle → tick_later k.cycle t ≡ c
 behind k t c e room a one = by a.ahead (cases_order (t + 1) k.cycle)
   where

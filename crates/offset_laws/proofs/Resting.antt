@@ -1,4 +1,4 @@
--- A cycle whose correction is over: the counter goes on as time does to the next local zero, and the error stays.
+-- A cycle whose correction is over: the counter continues as time does to the next local zero, and the error stays.
 use Rattle.std.proofs.Common.{◌≡◌, ◌⊎◌, inl, inr, ℕ, zero, suc, Bool, true, false, not, nat_le, ◌==◌, ◌&&◌, ◌||◌, if◌then◌else◌, ◌+◌, ◌-◌, ◌<◌, ◌≤◌, List, ◌∷◌, refl, sym, ◌∙◌, ap, subst, arith}
 use Rattle.sig_tables.specs.Counting.{Correction, tick_later, adds_sooner, dwelling, adding, skipping, stands, skips, last_step_changed, begins_cycle, next_counter, corrected, counter_after, counted}
 use Rattle.offset_laws.proofs.Steps.{later-within, later-end}

@@ -68,7 +68,7 @@ begun-some : (past : List ℕ) → begins_cycle past ≡ true → past ≢ []
 begun-some [] b = λ _. cc
 begun-some (c ∷ before) b = λ e. cc
 
--- every cycle that does not come to its end on target takes so many ticks
+-- every cycle that does not come to its end on target takes that many ticks
 abbrev Takes : Correction → ℕ → Type 0
 Takes k least = (t : ℕ) (past : List ℕ) (x : Turned k t past) → 1 ≤ x.end → least ≤ x.ticks
 

@@ -1,4 +1,4 @@
--- The arithmetic of a correction: so many ticks in steps of at most so many.
+-- The arithmetic of a correction: that many ticks in steps of at most that many.
 use Rattle.std.proofs.Common.{◌≡◌, ◌⊎◌, inl, inr, ℕ, ◌+◌, ◌-◌, ◌/◌, ◌%◌, ◌<◌, ◌≤◌, ◌∙◌, ap, arith}
 use Rattle.std.proofs.Math.Nat.{div-eq_of_lt, add-div_right, div-mul-le_self, le_trans, mod-eq_of_lt, add-mod_right}
 use Rattle.std.proofs.lemmas.Nat.{le-div}

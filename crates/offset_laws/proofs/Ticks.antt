@@ -10,7 +10,7 @@ use Rattle.offset_laws.proofs.Cycle.{still-adds, still-subtracts}
 use Rattle.offset_laws.proofs.Needed.{left-some}
 use Rattle.offset_laws.proofs.Going.{Goes, Dwells, Dwelt, AddsNext, AddsPlain, Added, SkipsNext, Skipped}
 
--- what a tick comes to: counter and target meet; the cycle goes on; or the next begins, with fewer cycles to go
+-- what a tick comes to: counter and target meet; the cycle continues; or the next begins, with fewer cycles to go
 pub data After (k : Correction) (most spare t x : ℕ) (past : List ℕ) : Type 0 where
   Met : (level : At k.cycle t x 0) → After k most spare t x past
   On : (f : ℕ) → (here : At k.cycle t x f) → (some : 1 ≤ f) → (goes : Goes k most spare x past f) → (inside : begins_cycle (x ∷ past) ≡ false)
@@ -90,7 +90,7 @@ needed-dwells k e some below two = let is : needed k e ≡ steps_for ((k.cycle -
     let l : steps_for ((k.cycle - e) % k.cycle) k.dwell ≡ steps_for (k.cycle - e) k.dwell
     = ap (λ (x : ℕ). steps_for x k.dwell) (left-some k.cycle e some below) in omega arith
 
--- with no stands or skips asked for in this cycle, the way grows no longer
+-- with no waits or skips asked for in this cycle, the way grows no longer
 tick-dwelt : (k : Correction) (most spare t c : ℕ) (before : List ℕ) (e : ℕ) → HasRoom k → At k.cycle t c e → 1 ≤ e → k.mode ≡ 2
     → steps_for (k.cycle - e) k.dwell + spare ≤ most → After k most spare (tick_later k.cycle t) (next_counter k (c ∷ before)
     (tick_later k.cycle t)) (c ∷ before)

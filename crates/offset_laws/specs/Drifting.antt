@@ -29,27 +29,27 @@ abbrev pub target_drifted : ℕ → ℕ → (ℕ → Drift) → ℕ → ℕ
 target_drifted cycle zero drifts target = target
 target_drifted cycle (suc n) drifts target = target_drifted cycle n (next_drifts drifts) (moved cycle (drifts 0) target)
 
--- no two steps of drift are less than so many ticks apart
+-- no two steps of drift are less than that many ticks apart
 abbrev pub Spaced : ℕ → (ℕ → Drift) → Type 0
 Spaced gap drifts = (i j : ℕ) → i < j → drifts i ≢ Even → drifts j ≢ Even → i + gap ≤ j
 
--- a clock that gains is brought back by shortway alone
+-- a clock that gains is brought back only by shortway
 abbrev pub CanCorrect : Correction → (ℕ → Drift) → Type 0
 CanCorrect k drifts = (k.mode ≡ 3) ⊎ ((i : ℕ) → drifts i ≢ Gains)
 
--- counter and target are equal after some number of ticks, at most so many
+-- counter and target are equal after some number of ticks, at most that many
 pub record MeetsTarget (k : Correction) (drifts : ℕ → Drift) (past : List ℕ) (target most : ℕ) : Type 0 where
   pub moment : ℕ
   pub within : moment ≤ most
   pub equal : last_counter (drifted k moment drifts target past) ≡ target_drifted k.cycle moment drifts target
 
--- the counter is on target, or one tick ahead of it or behind it, round the cycle
+-- the counter is on target, or one tick ahead of it or after it, round the cycle
 abbrev pub IsNear : ℕ → ℕ → ℕ → Type 0
 IsNear cycle counter target =
     (counter ≡ target)
     ⊎ ((tick_later cycle counter ≡ target) ⊎ (tick_later cycle target ≡ counter))
 
--- counter and target meet within so many ticks, and from then on they are never more than one tick apart
+-- counter and target meet within that many ticks, and from then on they are never more than one tick apart
 pub record StaysNear (k : Correction) (drifts : ℕ → Drift) (past : List ℕ) (target most : ℕ) : Type 0 where
   pub moment : ℕ
   pub within : moment ≤ most

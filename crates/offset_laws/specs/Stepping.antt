@@ -1,9 +1,9 @@
--- What holds of the counter whatever the targets are, even if a clock that is set moves them within a cycle.
+-- What holds of the counter for any targets, even if a clock that is set moves them within a cycle.
 use Rattle.std.specs.Prelude.{ℕ, zero, suc, true, ◌≡◌, ◌≤◌, ◌<◌, ◌⊎◌, ◌+◌, ◌-◌, List, ◌∷◌}
 use Rattle.sig_tables.specs.Counting.{Correction, next_counter, last_counter, stands, begins_cycle, most_a_cycle}
 use Rattle.tick_laws.specs.Steps.{Steps}
 
--- the counter lies in the cycle, and has stood no more often than one cycle may
+-- the counter lies in the cycle, and has waited no more often than one cycle may
 pub record KeepsLimits (k : Correction) (past : List ℕ) : Type 0 where
   pub counter : last_counter past < k.cycle
   pub stood : stands past ≤ most_a_cycle k
@@ -24,7 +24,7 @@ pub record StepsOn (k : Correction) (past : List ℕ) (target : ℕ) : Type 0 wh
   pub keeps : KeepsLimits k (next_counter k past target ∷ past)
   pub nearer : (begins_cycle (next_counter k past target ∷ past) ≡ true) ⊎ (to_zero k (next_counter k past target ∷ past) < to_zero k past)
 
--- a local zero comes within so many ticks
+-- a local zero comes within that many ticks
 pub record ZeroComes (k : Correction) (past : List ℕ) (targets : ℕ → ℕ) (most : ℕ) : Type 0 where
   pub ticks : ℕ
   pub some : 1 ≤ ticks

@@ -1,5 +1,5 @@
 //! Laws of the counter under a clock that drifts: the target then moves by none or by two at some ticks. The functions
-//! have no bodies: each represents the laws of its contract.
+//! have no bodies: their contracts are the laws.
 ghost use Rattle.std.specs.Prelude.{ℕ, ◌≡◌, ◌≤◌, ◌<◌, ◌+◌, ◌*◌, List, [], ◌∷◌, true};
 ghost use Rattle.sig_tables.specs.Counting.{Correction, HasRoom, begins_cycle, last_counter, most_a_cycle, needed};
 ghost use Rattle.offset_laws.specs.Drifting.{Drift, Loses, Gains, one_step, each_third, drifted, target_drifted, Spaced, CanCorrect, StaysNear};
@@ -26,8 +26,8 @@ pub fn held_as_computed()
     ensures early_on_target { target_drifted 900 899 (one_step 239 Gains) 0 ≡ 0 }
 {}
 
-/// Dwelling cannot follow a clock that gains: local zero then comes one tick late, and to dwell takes the counter only further
-/// behind, 100 ticks in the next cycle.
+/// Dwelling cannot follow a clock that gains: local zero then comes one tick late, and to dwell takes the counter only
+/// further after, 100 ticks in the next cycle.
 pub fn gains_are_not_dwelt_away()
     ensures late { begins_cycle (drifted dwelling_90 900 (one_step 239 Gains) 0 (0 ∷ [])) ≡ true }
     ensures by_one { target_drifted 900 900 (one_step 239 Gains) 0 ≡ 1 }

@@ -22,8 +22,8 @@ pub fn met_as_computed()
     ensures equal { last_counter (counted dwelling_70 900 500 (0 ∷ [])) ≡ target_after dwelling_70 900 500 }
 {}
 
-/// Where the window does not hold the stands of one cycle, or its skips, the offset is not met within the needed cycles: one
-/// would do for three ticks, but at the end of the longest cycle that there is the counter is still off the target.
+/// Where the window does not hold the waits of one cycle, or its skips, the offset is not met within the needed cycles:
+/// one would do for three ticks, but at the end of the longest cycle that there is the counter is still off the target.
 pub fn late_without_room()
     ensures to_add { needed adding_past_window 7 ≡ 1 }
     ensures longest_adding { adding_past_window.cycle + most_a_cycle adding_past_window ≡ 13 }

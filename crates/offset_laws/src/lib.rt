@@ -1,6 +1,6 @@
-//! Laws of offset correction, in numbers: the counter of a cycle is brought onto its target, a local zero comes
-//! whatever the targets are, and under a clock that drifts the offset is held to within one tick (FHWA Signal Timing
-//! Manual, offset transition). The functions have no bodies: each represents the laws of its contract.
+//! Laws of offset correction, in numbers: the counter of a cycle is brought onto its target, a local zero comes for any
+//! targets, and under a clock that drifts the offset is held to within one tick (FHWA Signal Timing Manual, offset
+//! transition). The functions have no bodies: their contracts are the laws.
 #![tactic(auto)]
 
 mod drift_held;
@@ -32,9 +32,9 @@ pub fn offset_is_met()
         → target < k.cycle → 1 ≤ target → k.mode ≢ 3 → AreEqual k past target n → (needed k target - 1) * (k.cycle + most_a_cycle k) < n }
 {}
 
-/// Whatever the targets are, as where a clock is set within a cycle: the counter stands only within the window and as often
-/// as one cycle may, skips one tick at most up to the window, else goes on as time does; and a local zero comes within the
-/// cycle and its greatest correction.
+/// Whatever the targets are, as where a clock is set within a cycle: the counter is only within the window and as often
+/// as one cycle may, skips one tick at most up to the window, else continues as time does; and a local zero comes
+/// within the cycle and its greatest correction.
 pub fn local_zero_comes()
     ensures step { (k : Correction) (c : ℕ) (before : List ℕ) (target : ℕ) → HasRoom k → KeepsLimits k (c ∷ before)
         → StepsOn k (c ∷ before) target }

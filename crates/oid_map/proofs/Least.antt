@@ -69,7 +69,7 @@ find_skip : (test : List ℕ → Bool) (front rest : List (List ℕ)) → AllByR
 find_skip test [] rest h = refl
 find_skip test (x ∷ front) rest h = rw (h.0) (find_skip test front rest h.1)
 
--- in a list that rises, what stands before a name isn't after it
+-- in a list that rises, what is before a name isn't after it
 front_not_after : (front rest : List (List ℕ)) (y : List ℕ) → IsRising (front ++ y ∷ rest) → AllByRecursion (λ x. is_before y x ≡ false) (front ++ y ∷ [])
 front_not_after [] rest y h = (not_before_itself y, tt)
 front_not_after (x ∷ front) rest y h =

@@ -23,7 +23,7 @@ turned inner numbers = flat_map (λ index. map (λ later. index ∷ later) inner
 some_of : (r : Range) → r.least ≤ r.most → r.most + 1 - r.least ≡ suc (r.most - r.least)
 some_of r h = omega arith
 
--- the least of each range stand first
+-- the least of each range are first
 pub leads : (ranges : List Range) → AreRanges ranges → (more : List (List ℕ)) × (tuples ranges ≡ least_of ranges ∷ more)
 leads [] h = ([], refl)
 leads (r ∷ rs) h =
@@ -42,7 +42,7 @@ past_turned inner n (suc k) first a h =
     find-append (is_before (a ∷ n)) (map (λ later. first ∷ later) inner) (turned inner (counted k (first + 1)))
     ∙ rw (find_past a first n (λ t. t) inner (omega arith)) (past_turned inner n k (first + 1) a (omega arith))
 
--- behind a number: with the same number, or else with the next one
+-- after a number: with the same number, or else with the next one
 pub at_turned : (inner more : List (List ℕ)) (head n : List ℕ) (k first a : ℕ) → inner ≡ head ∷ more → first ≤ a → a < first + k
     → find (is_before (a ∷ n)) (turned inner (counted k first))
     ≡ option_or (behind (a ∷ []) (find (is_before n) (map (λ t. t) inner))) (cond (ltb (a + 1) (first + k)) (Some ((a + 1) ∷ head)) None)
@@ -116,7 +116,7 @@ within ranges rs name n r a er en h low high =
     let plain : map (λ (t : List ℕ). t) (tuples rs) ≡ tuples rs = map-id (tuples rs) in
     rw (er, en) (found ∙ rw (plain, end) refl)
 
--- within the range: the later indices go on
+-- within the range: the later indices continue
 pub later_after : (old mid new : List ℕ) (ranges rs : List Range) (name n : List ℕ) (r : Range) (a : ℕ) → ranges ≡ r ∷ rs → name ≡ a ∷ n → AreRanges ranges
     → r.least ≤ a → a ≤ r.most → mid ≡ old ++ a ∷ [] → Continues mid new true (find (is_before n) (tuples rs))
     → Continues old new true (find (is_before name) (tuples ranges))

@@ -1,4 +1,4 @@
--- The order of names is strict, and the instances of the table stand in it.
+-- The order of names is strict, and the instances of the table are in it.
 use Rattle.std.proofs.Common.{◌≡◌, ◌⊎◌, inl, inr, ℕ, zero, suc, ◌+◌, ◌-◌, ◌<◌, ◌≤◌, Bool, true, false, ltb, eqb, ◌&&◌, ◌||◌, List, [], ◌∷◌, ◌++◌, map, refl, ◌∙◌, arith}
 use Rattle.std.specs.List.{flat_map, AllByRecursion}
 use Rattle.std.proofs.lemmas.Bool.{ltb-true, eqb-true, and_parts, or_cases}
@@ -83,7 +83,7 @@ rising_prefixed : (p : List ℕ) (xs : List (List ℕ)) → IsRising xs → IsRi
 rising_prefixed p [] h = tt
 rising_prefixed p (x ∷ xs) h = (before_prefixed p x xs h.0, rising_prefixed p xs h.1)
 
--- a lesser arc at the front
+-- a smaller arc at the front
 before_greater : (a b : ℕ) (t : List ℕ) (xs : List (List ℕ)) → a < b → BeforeAll (a ∷ t) (map (λ later. b ∷ later) xs)
 before_greater a b t [] h = tt
 before_greater a b t (x ∷ xs) h = (before_less a b t x h, before_greater a b t xs h)

@@ -21,12 +21,12 @@ pub before_prefix : (p m n : List ℕ) → is_before (p ++ m) (p ++ n) ≡ is_be
 before_prefix [] m n = refl
 before_prefix (a ∷ p) m n = before_same a (p ++ m) (p ++ n) ∙ before_prefix p m n
 
--- what was found, behind a prefix
+-- what was found, after a prefix
 abbrev pub behind : List ℕ → Option (List ℕ) → Option (List ℕ)
 behind p None = None
 behind p (Some t) = Some (p ++ t)
 
--- what stands at the front is not in the way
+-- what is at the front is not in the way
 pub find_same : (a : ℕ) (n : List ℕ) (f : List ℕ → List ℕ) (xs : List (List ℕ))
     → find (is_before (a ∷ n)) (map (λ t. a ∷ f t) xs) ≡ behind (a ∷ []) (find (is_before n) (map f xs))
 find_same a n f [] = refl

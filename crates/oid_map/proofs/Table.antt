@@ -1,4 +1,4 @@
--- The rows of the table of the objects and the names: each instance of a row has a name, and each name stands in a row.
+-- The rows of the table of the objects and the names: each instance of a row has a name, and each name is in a row.
 use Rattle.std.proofs.Common.{◌≡◌, inl, inr, ℕ, zero, suc, ◌+◌, ◌-◌, ◌<◌, ◌≤◌, Bool, true, false, eqb, List, [], ◌∷◌, ◌++◌, map, get_or, length, cond, Option, Some, None, rules, refl, sym, ap, subst, arith}
 use Rattle.std.specs.Prelude.{IfSome}
 use Rattle.arrayvec.specs.ArrayVec.{ArrayVec}
@@ -219,7 +219,7 @@ index_listed Split column row sub h = in_row 4 (column ∷ row ∷ sub ∷ []) (
 index_listed Preempt column row sub h = in_row 7 (column ∷ row ∷ []) (omega arith) (omega (arith, h.0), omega (arith, h.0), (h.1.0, h.1.1, tt))
 index_listed Sequence column row sub h = in_row 9 (column ∷ row ∷ sub ∷ []) (omega arith) (h.0.0, omega (arith, h.0.1), (h.1.0, h.1.1, (h.2.0, h.2.1, tt)))
 
--- each name of a readable instance stands in the list
+-- each name of a readable instance is in the list
 pub name_listed : (name : Name) → IsName name → IsReadable name → IsAmong (arcs_of name) readable
 unfolding objects
 name_listed (CellName cell) h reads = cell_listed cell h
@@ -243,7 +243,7 @@ written_in_row : (i : ℕ) (t : List ℕ) → i < length write_only_rows → Wit
 unfolding write_only
 written_in_row i t h w = among_rows write_only_rows i t h w
 
--- each name of an instance that can only be written stands in the other list
+-- each name of an instance that can only be written is in the other list
 pub write_only_listed : (name : Name) → IsName name → (IsReadable name → ⊥) → IsAmong (arcs_of name) write_only
 unfolding objects
 write_only_listed (CellName cell) h hidden = absurd (hidden tt)

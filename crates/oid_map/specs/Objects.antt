@@ -62,7 +62,7 @@ objects =
     ∷ readable_row (own ++ 4 ∷ 3 ∷ 1 ∷ []) (1 to 10 ∷ [])
     ∷ []
 
--- so many numbers from the first on
+-- that many numbers from the first on
 abbrev pub counted : ℕ → ℕ → List ℕ
 counted zero first = []
 counted (suc n) first = first ∷ counted n (first + 1)

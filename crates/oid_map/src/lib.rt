@@ -1,5 +1,5 @@
 //! The names of a cabinet's objects (OBJECT IDENTIFIER, RFC 1155), each the name of one instance, and the order in
-//! which a walk by GetNext (RFC 1157) meets the instances that can be read. The objects follow NTCIP 1202 in outline.
+//! which a walk by GetNext (RFC 1157) meets the instances that can be read. The objects are modelled on NTCIP 1202.
 //! Nothing here takes memory.
 #![tactic(auto)]
 

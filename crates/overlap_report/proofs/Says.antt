@@ -1,4 +1,4 @@
--- What was seen of a cabinet of a trace, and what is to be told of its overlaps.
+-- What was seen of a cabinet of a trace, and what is to be reported of its overlaps.
 use Rattle.std.proofs.Common.{◌≡◌, ◌≢◌, inl, inr, ℕ, ◌+◌, Bool, List, [], ◌∷◌, length, Result, Ok, Err, refl, sym, ◌∙◌, ap, subst, arith}
 use Rattle.sig_types.specs.declared.frame.Frame.{Frame}
 use Rattle.sig_tables.specs.declared.tables.Tables.{Tables}
@@ -39,7 +39,7 @@ use Rattle.overlap_report.specs.Overlaps.{HasEnded, AreInForce, AtCabinet, NoCab
 use Rattle.overlap_report.specs.BySeen.{IsUnbroken, SaysOfOverlap}
 use Rattle.overlap_report.proofs.Cabinets.{SomeOrNone, some-or-none, one-cabinet_state, one-by-version}
 
--- a fact of every overlap at a cabinet of which lines have told, where it breaks no rule
+-- a fact of every overlap at a cabinet that lines have reported, where it breaks no rule
 abbrev WhereUnbroken : (Timing → List ℕ → ℕ → (ℕ → Tables) → List Line → Type 0) → Type 0
 WhereUnbroken Fact = (cab : ℕ) (tables : ℕ → Tables) (lines : List Line) (by_version : List Tables) (parents : List ℕ) (trail yellow red : ℕ)
     → IsToldOf cab tables lines by_version → verdict by_version parents trail yellow red ≡ Ok tt
@@ -60,7 +60,7 @@ pub record Laws : Type 0 where
   pub versions : (h : History) (has : Frame → Frame → Bool) (cab : ℕ) (lines : List Line) → told_in cab lines ≡ history_told has h
       → downloads cab lines ≡ (past_at h).version
 
--- the run that the text tells
+-- the run that the text gives
 abbrev run_of : (text : List ℕ) (cab : ℕ) (seen : Seen) → HasSeen text cab seen → TellsOfRun text
 run_of text cab seen hs = record {
   scenario = hs.scenario;
@@ -72,7 +72,8 @@ run_of text cab seen hs = record {
   kept = hs.kept;
 }
 
--- a cabinet of the trace of which all was seen: what it came to, what its lines told, and that the frames are those that have a line
+-- a cabinet of the trace of which all was seen: what it came to, what its lines reported, and that the frames are those
+-- that have a line
 record Found (text : List ℕ) (cab : ℕ) (seen : Seen) : Type 0 where
   run : TellsOfRun text
   cabinet : CabinetContent
@@ -130,7 +131,7 @@ fault-not-ok f r e ok = differ f (sym e ∙ ok)
     differ : (g : OverlapFault) → refused g ≢ Ok tt
     differ g = grind arith
 
--- and one fault is told
+-- and one fault is reported
 pub one-fault : (f g : OverlapFault) (r : Result (Unit {0}) OverlapFault) → r ≡ Err f → r ≡ Err g → f ≡ g
 one-fault f g r e d = same (sym e ∙ d)
   where

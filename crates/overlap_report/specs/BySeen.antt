@@ -12,8 +12,9 @@ use Rattle.overlap_report.specs.Overlaps.{times_of, verdict_of, BreaksRule, Tell
 abbrev pub IsUnbroken : Seen → Overlap → Type 0
 IsUnbroken seen asked = verdict_of seen.tables.items asked ≡ Ok tt
 
--- it breaks a rule by the tables that were seen exactly where it does by those that were in force. Where it breaks none its text by the
--- frames that were seen is what is to be told of it; these frames are of all ticks; its parents are phases, and yellow lasts a tick or more
+-- it breaks a rule by the tables that were seen exactly where it does by those that were in force. Where it breaks none
+-- its text by the frames that were seen is what is to be reported of it; these frames are of all ticks; its parents are
+-- phases, and yellow lasts a tick or more
 pub record SaysOfOverlap (text : List ℕ) (asked : Overlap) (seen : Seen) : Type 0 where
   pub breaks : (fault : OverlapFault) → verdict_of seen.tables.items asked ≡ Err fault → BreaksRule text asked fault
   pub due : (fault : OverlapFault) → BreaksRule text asked fault → verdict_of seen.tables.items asked ≡ Err fault

@@ -1,5 +1,5 @@
--- What is told of an overlap at a cabinet of a trace: its text, or the first rule that it breaks. All is said of the trace: of the run that it
--- tells, of its lines, and of the tables that were in force at the cabinet.
+-- What is reported of an overlap at a cabinet of a trace: its text, or the first rule that it breaks. All is said of
+-- the trace: of the run that it gives, of its lines, and of the tables that were in force at the cabinet.
 use Rattle.std.specs.Prelude.{ℕ, ◌+◌, ◌≡◌, List, [], length, Result, Err}
 use Rattle.sig_tables.specs.declared.tables.Tables.{Tables}
 use Rattle.sig_tables.specs.Decide.{frames, past_at}
@@ -19,7 +19,7 @@ use Rattle.overlap_run.specs.Street.{IsCovered, IsApart}
 use Rattle.overlap_run.specs.Trace.{AreByVersion, text_of}
 use Rattle.command_words.specs.declared.command.Overlap.{Overlap}
 
--- by the end of a run with these journals the cabinet with this number has come to this
+-- by the end of a run with these journals the cabinet with this number has reached this
 abbrev pub HasEnded : ScenarioContent → List (List (List ℕ)) → ℕ → CabinetState → Type 0
 HasEnded s journals cab end = HasComeTo cab end 1 (cabinet_states_after s (opened_cabinet_states s s.cabinets) journals)
 

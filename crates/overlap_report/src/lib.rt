@@ -1,5 +1,5 @@
-//! An overlap over a trace: from what was seen of a cabinet of a trace to the text of the overlap, or the first rule that it breaks
-//! (NEMA TS 2, overlaps). What is promised is said of the trace and its lines.
+//! An overlap over a trace: from what was seen of a cabinet of a trace to the text of the overlap, or the first rule
+//! that it breaks (NEMA TS 2, overlaps). The promises are about the trace and its lines.
 #![tactic(auto)]
 
 mod reporting;

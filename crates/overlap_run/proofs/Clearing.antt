@@ -11,7 +11,7 @@ use Rattle.sig_tables.specs.Tables.{yellow_time, red_clear_time}
 use Rattle.safety_laws.specs.Safe.{Intersection, Safe, Interval, colour_at, in_force, next_colour}
 use Rattle.overlap_run.specs.Street.{VersionsUpTo}
 
--- the least clearance of a phase over the versions up to the last is at least so long
+-- the shortest clearance of a phase over the versions up to the last is at least that long
 abbrev pub IsLeast : Intersection → ℕ → ℕ → ℕ → Type 0
 IsLeast s last p bound = (v w : ℕ) → v ≤ last → w ≤ last → bound ≤ yellow_time (s.tables v) p + red_clear_time (s.tables w) p
 
@@ -21,7 +21,8 @@ record Since (s : Intersection) (p : ℕ) (colour : Colour) (first tick : ℕ) :
   during : (k : ℕ) → first ≤ k → k ≤ tick → colour_at s p k ≡ colour
   before : (k : ℕ) → k + 1 ≡ first → colour_at s p k ≢ colour
 
--- where the phase stands since it was Green at a tick: still or again Green; Yellow since later; or Clear, a whole yellow later
+-- the state of the phase since it was Green at a tick: still or again Green; Yellow since later; or Clear, a whole
+-- yellow later
 data ClearingStands (s : Intersection) (last p g tick : ℕ) : Type 0 where
   IsGreen : colour_at s p tick ≡ Green → ClearingStands s last p g tick
   IsYellow : (first : ℕ) → g < first → Since s p Yellow first tick → ClearingStands s last p g tick
@@ -88,7 +89,7 @@ module _ (s : Intersection) (last p bound g : ℕ) (safe : Safe s) (is-phase : i
     | inr miss ↦ inr (rw miss at e)
   ]
 
-  -- Yellow lasts its time, and then Clear follows, or Red where no red clearance is due
+  -- Yellow lasts its time, and then Clear follows, or Red where no red clearance is required
   from-yellow : (first tick : ℕ) (now : Colour) → colour_at s p (tick + 1) ≡ now → g < first → Since s p Yellow first tick → tick + 1 ≤ g + bound
       → ClearingStands s last p g (tick + 1)
   from-yellow first tick Yellow after late since short = IsYellow first late (since-on s p first tick Yellow since after)

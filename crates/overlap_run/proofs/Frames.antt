@@ -22,7 +22,7 @@ put-told : (b : Bool) (n : ℕ) (g : Frame) → frames_told (if b then (n, g) �
 put-told true n g = refl
 put-told false n g = refl
 
--- the lines tell them
+-- the lines give them
 pub written-told : (has_line : Frame → Frame → Bool) (fs : List Frame) → frames_told (frames_written has_line fs) ≡ written has_line fs
 written-told has_line [] = refl
 written-told has_line (f ∷ []) = refl
@@ -64,7 +64,7 @@ any-frames has_line (f ∷ before) ticks e =
 pub history-frames : (h : History) (has_line : Frame → Frame → Bool) (ticks : ℕ) → ticks + 1 ≡ length (frames h) → AreFrames (frames_written has_line (frames h)) ticks
 history-frames h has_line ticks e = any-frames has_line (frames h) ticks e
 
--- the downloads that are told of
+-- the downloads that are reported of
 abbrev loads_in : List CabinetTold → ℕ
 loads_in [] = 0
 loads_in (Shows tick shown ∷ told) = loads_in told

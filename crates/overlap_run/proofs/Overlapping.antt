@@ -12,7 +12,7 @@ use Rattle.overlap_run.specs.Overlap.{has_trail, run, shown_after, colours, last
 use Rattle.overlap_run.specs.Street.{parent_green, CanOverlap, IsCovered, IsApart}
 use Rattle.overlap_run.proofs.Clearing.{clears}
 
--- some parent was Green at a tick, so many ticks ago at most
+-- some parent was Green at a tick, that many ticks ago at most
 record Lately (shows : ℕ → Bool) (n most : ℕ) : Type 0 where
   at : ℕ
   green : shows at ≡ true

@@ -1,4 +1,4 @@
--- The text of an overlap by frames, and by the lines that tell them.
+-- The text of an overlap by frames, and by the lines that give them.
 use Rattle.std.proofs.Common.{◌≡◌, ℕ, zero, suc, nat_le, Bool, true, false, if◌then◌else◌, List, [], ◌∷◌, ◌++◌, refl, sym, ◌∙◌, ap, arith}
 use Rattle.sig_types.specs.declared.frame.Colour.{Colour}
 use Rattle.sig_types.specs.declared.frame.Frame.{Frame}

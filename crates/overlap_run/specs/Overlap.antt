@@ -26,9 +26,10 @@ abbrev pub run : Colour → List Colour → ℕ
 run colour [] = 0
 run colour (shown ∷ past) = if same_colour shown colour then run colour past + 1 else 0
 
--- what the overlap shows at the newest of these ticks, by what it showed before it: at tick 0 it is Red. Red becomes Green where a parent
--- shows Green at this tick; Green becomes Yellow where none does at this tick or in the trail before it; Yellow and Clear last their
--- times, and red clearance is left out where its time is 0. So Red stands for a tick at least before it can become Green.
+-- what the overlap shows at the newest of these ticks, by what it showed before it: at tick 0 it is Red. Red becomes
+-- Green where a parent shows Green at this tick; Green becomes Yellow where none does at this tick or in the trail
+-- before it; Yellow and Clear last their times, and red clearance is left out where its time is 0. So Red represents a
+-- tick at least before it can become Green.
 abbrev pub shown_after : Timing → List Bool → List Colour → Colour
 shown_after t greens [] = Red
 shown_after t greens (Red ∷ past) = if is_green greens then Green else Red

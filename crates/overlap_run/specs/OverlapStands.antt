@@ -1,4 +1,4 @@
--- What the registers of an overlap stand for: which ticks so far saw some parent Green, the newest first.
+-- What the registers of an overlap represent: which ticks so far saw some parent Green, the newest first.
 use Rattle.std.specs.Prelude.{ℕ, ◌+◌, ◌-◌, ◌≡◌, ◌≢◌, ◌≤◌, nat_le, Bool, List, [], ◌∷◌}
 use Rattle.sig_types.specs.declared.frame.Colour.{Colour}
 use Rattle.sig_types.specs.declared.frame.Colour.TheVariants.{Green, Yellow, Clear, Red}
@@ -6,7 +6,7 @@ use Rattle.overlap_run.specs.declared.overlap.Timing.{Timing}
 use Rattle.overlap_run.specs.declared.overlap.Overlap.{Overlap}
 use Rattle.overlap_run.specs.Overlap.{has_trail, run, last_colour, colours}
 
--- so many ticks are left of the trail: some parent was Green as many ticks ago as it is short of the whole
+-- that many ticks are left of the trail: some parent was Green as many ticks ago as it is short of the whole
 pub record TrailLeft (trail left : ℕ) (greens : List Bool) : Type 0 where
   pub within : left ≤ trail
   pub last : (n : ℕ) → has_trail n greens ≡ nat_le (trail - left) n
@@ -25,6 +25,6 @@ pub record OverlapStands (o : Overlap) (t : Timing) (greens : List Bool) : Type 
   pub shown : o.shown ≡ last_colour (colours t greens)
   pub left : IsLeft o.left t greens (colours t greens) o.shown
 
--- the overlap stands at tick 0, whatever its parents show there
+-- the overlap is at tick 0, whatever its parents show there
 abbrev pub IsOpened : Overlap → Timing → Type 0
 IsOpened o t = (green : Bool) → OverlapStands o t (green ∷ [])

@@ -1,4 +1,5 @@
--- When some parent of an overlap shows Green, by the frames of a cabinet that have a line: what a frame shows stands until the next one.
+-- When some parent of an overlap shows Green, by the frames of a cabinet that have a line: what a frame shows holds
+-- until the next one.
 use Rattle.std.specs.Prelude.{ℕ, ◌+◌, ◌≡◌, ◌≤◌, nat_le, Bool, false, if◌then◌else◌, List, [], ◌∷◌, drop}
 use Rattle.sig_types.specs.declared.frame.Colour.{Colour}
 use Rattle.sig_types.specs.declared.frame.Colour.TheVariants.{Green}
@@ -30,12 +31,14 @@ abbrev pub Rise : ℕ → List (ℕ × Frame) → ℕ → Type 0
 Rise first [] end = first ≤ end
 Rise first (f ∷ frames) end = (first ≤ f.0) × Rise (f.0 + 1) frames end
 
--- the frames of a cabinet with so many ticks: the first is that of tick 0, and their ticks rise up to the last at most
+-- the frames of a cabinet with that many ticks: the first is that of tick 0, and their ticks rise up to the last at
+-- most
 abbrev pub AreFrames : List (ℕ × Frame) → ℕ → Type 0
 AreFrames [] ticks = ⊥
 AreFrames (f ∷ frames) ticks = (f.0 ≡ 0) × Rise 1 frames (ticks + 1)
 
--- at a tick a parent is Green or none is, and so many of the frames stand at or before it; those behind them come later, before an end
+-- at a tick a parent is Green or none is, and that many of the frames are at or before it; those after them come later,
+-- before an end
 pub record IsSeen (parents : List ℕ) (frames : List (ℕ × Frame)) (end tick : ℕ) (green : Bool) (next : ℕ) : Type 0 where
   pub seen : (later : ℕ) → tick ≤ later → green_at parents frames later ≡ green_by parents later green (drop next frames)
   pub rise : Rise (tick + 1) (drop next frames) end

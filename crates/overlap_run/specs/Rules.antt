@@ -20,11 +20,11 @@ least time (t ∷ later) = least_from time (time t) later
 abbrev pub least_clearance : List Tables → ℕ → ℕ
 least_clearance tables p = least (λ t. yellow_time t p) tables + least (λ t. red_clear_time t p) tables
 
--- an octet is no enabled phase of the opening tables, or it repeats an earlier one
+-- an octet is not an enabled phase of the opening tables, or it repeats an earlier one
 abbrev pub is_faulty : Tables → List ℕ → ℕ → Bool
 is_faulty opening earlier p = not (is_enabled opening p) || is_in earlier p
 
--- the first such octet, behind these earlier ones
+-- the first such octet, after these earlier ones
 abbrev pub first_faulty : Tables → List ℕ → List ℕ → Option ℕ
 first_faulty opening earlier [] = None
 first_faulty opening earlier (p ∷ parents) = if is_faulty opening earlier p then Some p else first_faulty opening (p ∷ earlier) parents
@@ -47,7 +47,7 @@ fourth (Some p) = broken 4 p
 abbrev pub third : ℕ → Option ℕ → Result (Unit {0}) OverlapFault
 third yellow short = if nat_lt yellow 30 then broken 3 0 else fourth short
 
--- rule 2: each parent is an enabled phase, and none stands twice
+-- rule 2: each parent is an enabled phase, and none is there twice
 abbrev pub second : Option ℕ → ℕ → Option ℕ → Result (Unit {0}) OverlapFault
 second None yellow short = third yellow short
 second (Some p) yellow short = broken 2 p

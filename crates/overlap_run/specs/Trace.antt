@@ -10,7 +10,7 @@ use Rattle.overlap_run.specs.declared.overlap.Timing.{Timing}
 use Rattle.overlap_run.specs.Text.{overlap_text}
 use Rattle.overlap_run.specs.Street.{parent_green}
 
--- what frames with the numbers of their ticks tell
+-- what frames with the numbers of their ticks say
 abbrev pub frames_told : List (ℕ × Frame) → List (ℕ × Indications)
 frames_told [] = []
 frames_told (f ∷ frames) = (f.0, shown_by f.1) ∷ frames_told frames
@@ -27,13 +27,13 @@ pub record AreByVersion (by_version : List Tables) (tables : ℕ → Tables) (la
   pub many : length by_version ≡ last + 1
   pub each : (v : ℕ) (d : Tables) → v ≤ last → get_or by_version v d ≡ tables v
 
--- a cabinet's lines of which a trace has told: its street is safe with the tables of each version, its versions are whole, and these are
--- the tables of the versions that it had
+-- a cabinet's lines that a trace has: its street is safe with the tables of each version, its versions are
+-- whole, and these are the tables of the versions that it had
 pub record IsToldOf (cab : ℕ) (tables : ℕ → Tables) (lines : List Line) (by_version : List Tables) : Type 0 where
   pub safe : Safe (intersection_of cab tables lines)
   pub whole : Whole cab lines
   pub versions : AreByVersion by_version tables (downloads cab lines)
 
--- the text of an overlap at a cabinet, by the frame lines that tell of it
+-- the text of an overlap at a cabinet, by its frame lines
 abbrev pub text_of : Timing → List ℕ → ℕ → (ℕ → Tables) → List Line → ℕ → List ℕ
 text_of t parents cab tables lines ticks = overlap_text t (parent_green (intersection_of cab tables lines) parents) ticks

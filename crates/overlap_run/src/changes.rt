@@ -65,8 +65,8 @@ fn is_green(parents: PhaseSet, veh: &[Colour; 16]) -> bool
     !parents.meet(showing(veh, Colour::Green)).is_empty()
 }
 
-/// Whether a parent is Green at the tick after so many, and how many of the frames stand at or before it; where at the tick before it
-/// the answers were these.
+/// Whether a parent is Green at the tick after that many, and how many of the frames are at or before it; where at the
+/// tick before it the answers were these.
 fn look_on(
     frames: &Vec<(u32, Frame)>,
     parents: PhaseSet,

@@ -42,15 +42,16 @@ pub fn unbroken_overlaps_are_covered()
         → (tick : ℕ) → IsApart (timed trail yellow red) parents (intersection_of cab tables lines) tick }
 {}
 
-/// The text of an overlap by the frames of a cabinet is that by its frame lines, where these tell the frames.
+/// The text of an overlap by the frames of a cabinet is that by its frame lines, where these give the frames.
 pub fn frames_give_the_text()
     ensures { (t : Timing) (parents : List ℕ) (cab ticks : ℕ) (tables : ℕ → Tables) (lines : List Line) (frames : List (ℕ × Frame))
         → told cab lines ≡ frames_told frames → AreFrames frames ticks
         → overlap_text t (green_at parents frames) ticks ≡ text_of t parents cab tables lines ticks }
 {}
 
-/// The frames of a history that have a line are such frames: their ticks rise from 0 to its last tick at most, and its lines tell them. And
-/// these name as many accepted downloads as the history has versions, beside the opening one.
+/// The frames of a history that have a line are such frames: their ticks rise from 0 to its last tick at most, and its
+/// lines give them. And these name as many accepted downloads as the history has versions, in addition to the opening
+/// one.
 pub fn histories_give_frames()
     ensures frames { (h : History) (has_line : Frame → Frame → Bool) (ticks : ℕ) → ticks + 1 ≡ length (frames h)
         → AreFrames (frames_written has_line (frames h)) ticks }

@@ -1,8 +1,8 @@
-//! An overlap: an arrow that shows green with any of several parent phases, as the right turn beside two through movements
-//! (NEMA TS 2, overlaps). `Overlap` counts down tick by tick, and `text` writes its changes over all ticks of a cabinet.
-//!
-//! By which rule an overlap can't be timed from what a cabinet did: it is to be over before any of its parents can have cleared
-//! (yellow change of three seconds at least, MUTCD). And the law that its parents cover it at every tick.
+//! An overlap: an arrow that shows green with any of several parent phases, such as a right turn that goes with two
+//! through movements (NEMA TS 2, overlaps). `Overlap` counts down tick by tick, and `text` writes its changes over all
+//! ticks of a cabinet.  The rules by which an overlap is refused over what a cabinet did: it must be over before any of
+//! its parents can have cleared, and its yellow change has at least three seconds (MUTCD). And the law that its parents
+//! cover it at every tick.
 #![tactic(auto)]
 
 mod changes;

@@ -5,8 +5,8 @@ ghost use Rattle.std.specs.Prelude.{◌≡◌, ◌<◌, ◌≤◌, ◌∷◌, Bo
 
 use sig_types::Colour;
 
-/// How long an overlap holds green behind the last green of its parents, how long yellow change lasts, and how long red clearance
-/// lasts; in ticks of 0.1 s.
+/// How long an overlap holds green after the last green of its parents, how long yellow change lasts, and how long red
+/// clearance lasts; in ticks of 0.1 s.
 #[derive(Clone, Copy, PartialEq, Eq)]
 pub struct Timing {
     pub trail: u32,
@@ -75,7 +75,7 @@ impl Overlap {
         }
     }
 
-    /// From Green: held while a parent is Green and for the trail behind it, then Yellow.
+    /// From Green: held while a parent is Green and for the trail after it, then Yellow.
     fn hold(&mut self, green: bool)
         requires { self.old.shown ≡ Colour.Green }
         ensures { (t : Timing) (greens : List Bool) → OverlapStands self.old t greens → OverlapStands self.new t (green ∷ greens) }

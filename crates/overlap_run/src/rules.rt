@@ -10,7 +10,7 @@ use crate::faults::OverlapFault;
 use sig_tables::{Tables, enabled_phases, holds};
 use sig_types::PhaseSet;
 
-/// The parents as a set; or the first octet that is no enabled phase of the opening tables, or that stands twice.
+/// The parents as a set; or the first octet that is not an enabled phase of the opening tables, or that appears twice.
 fn enabled_parents(opening: &Tables, parents: &[u8]) -> Result<PhaseSet, u8>
     ensures ok { OnOk result (first_faulty opening.now [] parents.now ≡ None) }
     ensures set { IfOk result (λ set. (p : ℕ) → 0 < p → p ≤ 16 → has set p ≡ is_in parents.now p) }

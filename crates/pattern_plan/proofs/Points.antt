@@ -32,7 +32,7 @@ only-few test (x ∷ xs) h = split (only-few test xs (λ q i. h q (in-tail x xs 
 pub coordinated-few : (t : Tables) (n r : ℕ) → coordinated_phase t n r ≤ 16
 coordinated-few t n r = only-few (λ p. ring_of t p == r && is_coordinated t n p) all_phases (λ q i. (phase-in q (listed-phase q i)).1)
 
--- what stands for a phase that may be 0
+-- what represents a phase that may be 0
 pub force-at : (t : Tables) (n : ℕ) (force : List ℕ) (p : ℕ) → p ≤ 16 → EachIs force (force_point t n)
     → (if p == 0 then 0 else get_or force (p - 1) 0) ≡ force_point t n p
 force-at t n force zero few e = refl
@@ -41,7 +41,7 @@ force-at t n force (suc p) few e = elim (eqb_tells (suc p) 0) [
   | inr (b, z) ↦ rw b (e (suc p) (phase-is (suc p) (omega arith) few))
 ]
 
--- the first that passes stands at the head, or behind it
+-- the first that passes is at the head, or after it
 pub found-here : (test : ℕ → Bool) (p : ℕ) (rest : List ℕ) (x : ℕ) → test p ≡ true → only (those test (p ∷ rest)) ≡ x → p ≡ x
 found-here test p rest x t h = rw t at h
 

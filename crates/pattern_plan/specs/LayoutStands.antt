@@ -19,7 +19,7 @@ pub record RingLayoutStands (s : RingLayout) : Type 0 where
 abbrev pub enabled_end : Tables → ℕ → ℕ → ℕ
 enabled_end t n p = if is_enabled t p then slot_end t n p else 0
 
--- what stands in a list for phase p
+-- what is in a list for phase p
 abbrev pub at_phase : List ℕ → ℕ → ℕ
 at_phase numbers p = get_or numbers (p - 1) 0
 

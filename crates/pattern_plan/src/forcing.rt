@@ -33,9 +33,9 @@ fn within(moment: u64, cycle: u32) -> u32
     }
 }
 
-/// The force point of a phase whose slot ends so late and that clears so long, if it is enabled: the last moment that leaves
-/// room for its clearance in its slot and for that of its side before the side ends, round the cycle. Else 0. So many whole
-/// cycles are added that nothing is taken from less than itself.
+/// The force point of an enabled phase whose slot ends at `end` and whose clearance is `clear`: the last moment that
+/// leaves room for its clearance in its slot, and for that of its side before the side ends, modulo the cycle. It is 0
+/// if the phase isn't enabled. Enough whole cycles are added before subtracting that no difference is below 0.
 fn force_if(enabled: bool, cycle: Cycle, end: u32, clear: u32, side: &Side) -> u32
     requires few { cycle.time ≤ 2550 }
     ensures { result ≡ (if enabled then (min (end + cycle.time * (side.now.clearance + cycle.zero) - clear)

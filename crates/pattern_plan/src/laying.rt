@@ -46,7 +46,7 @@ pub fn splits(tables: &Tables, pattern: u8) -> [u32; 16]
     times
 }
 
-/// Where the slot of a phase starts, behind those of the octets before it in an order.
+/// Where the slot of a phase starts, after those of the octets before it in an order.
 fn start_in(entries: &[SplitEntry], order: &[u8], phase: u8) -> u32
     requires few { length order.now ≤ 16 }
     ensures start { result ≡ sum_of (time_of entries.now) (before phase order.now) }

@@ -1,6 +1,6 @@
-//! A pattern laid out over its cycle, once for all ticks that follow it: slots, force points, permissive ends, the window and
-//! the offset; and what its split asks of each phase (FHWA Signal Timing Manual: cycle, split, offset, force-off, permissive
-//! period; NTCIP 1202, split modes). No memory is taken.
+//! A pattern laid out over its cycle, once for all ticks that follow it: slots, force points, permissive ends, the
+//! window and the offset; and what its split requires of each phase (FHWA Signal Timing Manual: cycle, split, offset,
+//! force-off, permissive period; NTCIP 1202, split modes). No memory is taken.
 #![tactic(auto)]
 
 mod forcing;

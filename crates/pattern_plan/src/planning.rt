@@ -35,7 +35,7 @@ fn zero_of(tables: &Tables, pattern: u8, held: [u8; 2]) -> u32
     start_of(tables, pattern, held[0]).max(start_of(tables, pattern, held[1]))
 }
 
-/// What stands for a phase among the numbers of sixteen; 0 for phase 0.
+/// What represents a phase among the numbers of sixteen; 0 for phase 0.
 fn at(numbers: &[u32; 16], phase: u8) -> u32
     requires within { phase ≤ 16 }
     ensures { result ≡ (if phase == 0 then 0 else get_or numbers.now (phase - 1) 0) }
@@ -47,7 +47,7 @@ fn at(numbers: &[u32; 16], phase: u8) -> u32
     }
 }
 
-/// The window: the lesser force point of the coordinated phases.
+/// The window: the smaller force point of the coordinated phases.
 fn window_of(tables: &Tables, pattern: u8, held: [u8; 2], force: &[u32; 16]) -> u32
     requires held { held ≡ coordinated_phases tables.now pattern }
     requires force { EachIs force.now (force_point tables.now pattern) }

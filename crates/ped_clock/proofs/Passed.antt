@@ -1,4 +1,4 @@
--- What is kept stands for one moment more at which nothing changes.
+-- What is kept represents one moment more at which nothing changes.
 use Rattle.std.proofs.Common.{◌≡◌, ◌+◌, ℕ, List, ◌∷◌, arith, refl, sym, ◌∙◌, ap}
 use Rattle.sig_tables.specs.Past.{Moment}
 use Rattle.sig_tables.specs.Looking.{last_frame}

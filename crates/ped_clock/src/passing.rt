@@ -1,4 +1,4 @@
-//! Ticks that are skipped at once: every signal goes on. Only the number of the step moves.
+//! Ticks that are skipped at once: every signal continues. Only the number of the step moves.
 
 ghost use Rattle.std.specs.Prelude.{◌≡◌, ◌<◌, ◌≤◌, ◌+◌, ℕ, List};
 

@@ -1,4 +1,4 @@
--- What is kept stands for one moment more at which nothing changes.
+-- What is kept represents one moment more at which nothing changes.
 use Rattle.std.proofs.Common.{◌≡◌, ◌≤◌, ◌+◌, ◌&&◌, not, ℕ, Bool, true, List, ◌∷◌, get_or, arith, refl, sym, ◌∙◌, ap}
 use Rattle.sig_types.specs.declared.frame.Colour.{Colour}
 use Rattle.sig_types.specs.declared.frame.Colour.TheVariants.{Green}

@@ -1,4 +1,4 @@
-//! Ticks that are skipped at once: every phase goes on in its colour, and quiet or opposed as it was. Only the number
+//! Ticks that are skipped at once: every phase continues in its colour, and quiet or opposed as it was. Only the number
 //! of the step moves, since all that runs is stamped.
 
 ghost use Rattle.std.specs.Prelude.{◌≡◌, ◌≤◌, ◌+◌, IsTrue};

@@ -8,7 +8,7 @@ use Rattle.sig_tables.specs.Past.{Moment}
 use Rattle.plan_facts.specs.Disturbances.{Drift, drifts}
 use Rattle.plan_facts.specs.Greatest.{pickup_bound}
 
--- the longest that a cycle of pattern n lasts: with all that one cycle may stand
+-- the longest that a cycle of pattern n lasts: with all that one cycle may be
 abbrev pub longest_cycle : Tables → ℕ → ℕ
 longest_cycle t n = cycle_time t n + most_a_cycle (correction_of t n)
 

@@ -1,5 +1,6 @@
--- What a history has to meet: coordination that is left alone brings local zeros, both coordinated phases Green, onto the offset.
--- Each condition looks back from one moment and is asked of every moment, so that a tick owes it of its own moment alone.
+-- What a history has to meet: coordination that is left undisturbed brings local zeros, both coordinated phases Green,
+-- onto the offset. Each condition looks back from one moment and is asked of every moment, so that a tick owes it of
+-- only its own moment.
 use Rattle.std.specs.Prelude.{ℕ, ◌+◌, ◌-◌, ◌*◌, ◌==◌, ◌&&◌, ◌||◌, ◌≤◌, ◌<◌, nat_le, nat_lt, Bool, true, false, ◌≡◌, if◌then◌else◌, List, [], ◌∷◌}
 use Rattle.sig_types.specs.declared.frame.Colour.{Colour}
 use Rattle.sig_types.specs.declared.frame.Mode.{Mode}
@@ -21,7 +22,7 @@ abbrev pub is_zero : List Moment → Bool
 is_zero [] = false
 is_zero (m ∷ past) = is_local_zero m.frame.mode m.frame.counter (last_frame past)
 
--- both coordinated phases of the pattern in step are Green
+-- both coordinated phases of the pattern coordinated are Green
 abbrev pub is_green : Mode → Tables → List Colour → Bool
 is_green (Coord n) t veh = are_coordinated_green t n veh
 is_green mode t veh = false
@@ -53,7 +54,7 @@ has_zero d past = is_some (first_zero d past)
 abbrev pub zero_target : Drift → List Moment → ℕ
 zero_target d past = (last_frame (first_zero d past)).target
 
--- a local zero has come since the last disturbance, or that was fewer than so many ticks ago
+-- a local zero has come since the last disturbance, or that was fewer than that many ticks ago
 abbrev pub zero_within : Drift → ℕ → List Moment → Bool
 zero_within d most past = if has_zero d past then true else nat_lt (quiet_for d past) most
 
@@ -61,7 +62,7 @@ zero_within d most past = if has_zero d past then true else nat_lt (quiet_for d 
 abbrev pub is_met : Moment → Bool
 is_met m = m.frame.counter == m.frame.target
 
--- counter and target are equal; with a drifting clock also where they are one tick apart, round the cycle
+-- counter and target are equal; with a drifting clock even if they are one tick apart, round the cycle
 abbrev pub is_near : Drift → Moment → Bool
 is_near d m =
     is_met m || drifts d
@@ -77,11 +78,11 @@ holds_since d most (m ∷ past) =
     then (if is_met m && nat_le (quiet_for d (m ∷ past)) most then true else holds_since d most past)
     else false
 
--- the offset is held, or a disturbance was fewer than so many ticks ago
+-- the offset is held, or a disturbance was fewer than that many ticks ago
 abbrev pub offset_within : Drift → ℕ → List Moment → Bool
 offset_within d most past = if nat_le most (quiet_for d past) then holds_since d most past else true
 
--- the correction can follow the clock: one that gains is followed by shortway alone
+-- the correction can follow the clock: one that gains is followed only by shortway
 abbrev pub can_follow : Drift → Tables → Bool
 can_follow d t = d.gain == 0 || t.unit.mode == 3
 
@@ -114,8 +115,8 @@ MeetsEach d (m ∷ past) = MeetsNow d (m ∷ past) × MeetsEach d past
 abbrev pub Meets : History → Type 0
 Meets h = MeetsEach (drift_of (past_at h)) (past_at h).moments
 
--- in step with pattern n: where the first local zero was off the target, counter and target are not equal before the last of the cycles
--- that were needed from there, each of the others at its shortest
+-- coordinated in pattern n: where the first local zero was off the target, counter and target are not equal before the
+-- last of the cycles that were needed from there, each of the others at its shortest
 abbrev pub NotSooner : Drift → ℕ → List Moment → Type 0
 NotSooner d n [] = Unit {0}
 NotSooner d n (m ∷ past) =

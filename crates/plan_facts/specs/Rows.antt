@@ -11,7 +11,7 @@ use Rattle.plan_facts.specs.Greatest.{pickup_bound}
 use Rattle.plan_facts.specs.Bounds.{longest_cycle, zero_bound, offset_bound}
 use Rattle.plan_facts.specs.Meets.{first_zero, zero_target, green_at_zero, zero_in_time, offset_in_time}
 
--- so many ticks, after these events
+-- that many ticks, after these events
 abbrev pub ticks : ℕ → List Event → List Event
 ticks zero events = events
 ticks (suc n) events = Tick ∷ ticks n events

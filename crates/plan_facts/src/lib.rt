@@ -1,5 +1,5 @@
-//! What is known of the goals, the times and the plans of consistent tables, only as definitions: the laws of safety
-//! ask them of the tables in force, and the crate of the rules' facts shows that consistent tables have them.
+//! What is known about the goals, the times and the plans of consistent tables, only as definitions: the laws of safety
+//! require these facts of the tables in force, and `rule_facts` shows that consistent tables have them.
 #![tactic(auto)]
 
 mod disturbances;

@@ -44,7 +44,7 @@ none-called t c past stands empty =
     ∙ sym (in-phases (has c.on) k (phase-is k above few))
     ∙ ap (λ (xs : List ℕ). is_in xs k) empty))
 
--- an input that is on now has been on for one tick more than so many last ones in a row
+-- an input that is on now has been on for one tick more than that many last ones in a row
 been-on : (ticks i k : ℕ) (on : List ℕ) (past : List Moment) → is_in on i ≡ true → k ≡ in_a_row (λ m. is_in m.preempts i) past
     → has_been_on (ticks + 1) i on past ≡ nat_le ticks k
 been-on ticks i k on past is count =

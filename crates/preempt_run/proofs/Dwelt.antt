@@ -1,4 +1,4 @@
--- Whether a goal has been reached in each of so many last frames of a dwell, phase by phase.
+-- Whether a goal has been reached in each of that many last frames of a dwell, phase by phase.
 use Rattle.std.proofs.Common.{◌≡◌, ◌<◌, ℕ, zero, suc, Bool, true, false, ◌&&◌, ◌||◌, ◌==◌, if◌then◌else◌, List, [], ◌∷◌, refl, sym, ◌∙◌, ap}
 use Rattle.std.proofs.lemmas.Bool.{false≢true}
 use Rattle.sig_types.specs.declared.frame.Frame.{Frame}

@@ -1,11 +1,11 @@
--- The registers stand for what has come with one event more that is no input of a preempt and no tick.
+-- The registers represent what has come with one event more that is not an input of a preempt and no tick.
 use Rattle.sig_types.specs.declared.frame.Field.TheVariants.{Veh, Ped as Button, Preempt as PreemptInput}
 use Rattle.sig_tables.specs.Past.{Event, Tick, Input, Install, SetPattern, SetClock, Ask, Cancel, SetDrift, Past}
 use Rattle.sig_tables.specs.Decide.{with_event}
 use Rattle.preempt_run.specs.declared.Preempts.{Preempts}
 use Rattle.preempt_run.specs.PreemptsKeep.{PreemptsStand}
 
--- the event is no tick, and no input of a preempt
+-- the event is not a tick, and no input of a preempt
 abbrev pub IsOther : Event → Type 0
 IsOther Tick = ⊥
 IsOther (Input (Veh q on)) = Unit {0}

@@ -1,4 +1,4 @@
--- What is kept stands for one moment more at which nothing changes.
+-- What is kept represents one moment more at which nothing changes.
 use Rattle.std.proofs.Common.{◌≡◌, ◌≤◌, ◌<◌, ◌+◌, ◌&&◌, ◌∷◌, [], ℕ, Bool, true, false, List, arith, refl, sym, ◌∙◌, ap}
 use Rattle.std.proofs.lemmas.Bool.{false≢true}
 use Rattle.std.proofs.lemmas.Bool.Decides.{Decides-eqb}

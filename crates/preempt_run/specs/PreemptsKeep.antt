@@ -31,13 +31,13 @@ pub record PreemptsKeep (c : Preempts) (heard : List Heard) (past : List Moment)
   pub off : (p : ℕ) → 0 < p → p ≤ 16 → MemberRunsStand c.off c.steps p (dwells_off p) past
   pub fits : EachFits past
 
--- the registers stand for the past: of all that has come they look at the inputs and the moments alone, so that a download, a
--- command, a clock set or a priority request leaves them as they stand
+-- the registers represent the past: of all that has come they look at the inputs and only the moments, so that a
+-- download, a command, a clock set or a priority request leaves them as they are
 abbrev pub PreemptsStand : Preempts → Past → Type 0
 PreemptsStand c past = PreemptsKeep c past.heard past.moments
 
--- a moment goes on with the last one beside all preempts: no input is on at it, and its frame has the mode of the last, which is no
--- dwell; what its rings have on are phases, or nothing
+-- a moment continues with the last one apart from all preempts: no input is on at it, and its frame has the mode of the
+-- last, which is not a dwell; what its rings have on are phases, or nothing
 pub record StaysBeside (past : Past) (m : Moment) : Type 0 where
   pub saw : m.preempts ≡ preempts_seen past
   pub none : (i : ℕ) → 0 < i → i ≤ 8 → is_in (preempts_seen past) i ≡ false

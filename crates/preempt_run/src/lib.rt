@@ -128,7 +128,7 @@ impl Preempts {
         self.mode = given.mode;
     }
 
-    /// A frame that goes on with the last one beside all preempts.
+    /// A frame that continues with the last one apart from all preempts.
     pub fn stay(&mut self)
         requires few { step_count self.old < 4294967295 }
         ensures stands { (past : Past) (m : Moment) → PreemptsStand self.old past → StaysBeside past m
@@ -141,8 +141,8 @@ impl Preempts {
         self.steps += 1;
     }
 
-    /// Whether a frame of this mode goes on with the last one beside all preempts: no input is on, no preempt dwells, and the
-    /// mode is that of the last frame.
+    /// Whether a frame of this mode continues with the last one apart from all preempts: no input is on, no preempt
+    /// dwells, and the mode is that of the last frame.
     fn is_beside(&self, mode: Mode) -> bool
         ensures none { IsTrue result → phases_of self.now.on ≡ [] }
         ensures dwell { IsTrue result → is_dwell mode ≡ false }
@@ -240,7 +240,7 @@ impl Preempts {
         self.has_dwelt(&row.dwell_phases, ticks(u16::from(row.dwell_green)).max(1))
     }
 
-    /// Whether the goal has been reached in each of so many last frames of the dwell that the last one is of.
+    /// Whether the goal has been reached in each of that many last frames of the dwell that the last one is of.
     fn has_dwelt(&self, goal: &PhaseList, ticks: u32) -> bool
         requires few { step_count self.now < 4294967295 }
         ensures dwelt { (past : Past) (i : ℕ) → PreemptsStand self.now past → (frame_seen past).mode ≡ Dwell i
@@ -252,7 +252,7 @@ impl Preempts {
         self.have_been_green(goal, ticks) && self.have_been_off(goal, ticks)
     }
 
-    /// Whether the phases of a goal have all been green in each of so many last frames, all of them frames of dwell.
+    /// Whether the phases of a goal have all been green in each of that many last frames, all of them frames of dwell.
     fn have_been_green(&self, goal: &PhaseList, ticks: u32) -> bool
         ensures green { (past : Past) → PreemptsStand self.now past → lasts ticks (λ m. is_dwell m.frame.mode) past.moments ≡ true
             → result ≡ each_green ticks (listed goal.now) past.moments }
@@ -261,7 +261,7 @@ impl Preempts {
         due_green(goal).meet(not_green).is_empty()
     }
 
-    /// Whether no phase but those of a goal has been on in any of so many last frames, all of them frames of dwell.
+    /// Whether no phase but those of a goal has been on in any of that many last frames, all of them frames of dwell.
     fn have_been_off(&self, goal: &PhaseList, ticks: u32) -> bool
         ensures off { (past : Past) → PreemptsStand self.now past → result ≡ each_off ticks (listed goal.now) past.moments }
     {

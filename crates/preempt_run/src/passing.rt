@@ -1,5 +1,5 @@
-//! Ticks that are skipped at once, beside all preempts: no input is on, and the mode stays. Only the number of the step
-//! moves.
+//! Ticks that are skipped at once, apart from all preempts: no input is on, and the mode stays. Only the number of the
+//! step moves.
 
 ghost use Rattle.std.specs.Prelude.{◌≡◌, ◌≤◌, ◌+◌, IsTrue};
 

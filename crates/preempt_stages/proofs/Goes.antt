@@ -1,4 +1,4 @@
--- What is kept goes on with one more moment.
+-- What is kept continues with one more moment.
 use Rattle.std.proofs.Common.{◌≡◌, ◌+◌, ◌==◌, ℕ, Bool, true, false, List, [], ◌∷◌, refl, ap, arith}
 use Rattle.sig_types.specs.declared.frame.Mode.{Mode}
 use Rattle.sig_types.specs.declared.frame.Mode.TheVariants.{Start, Free, Seek, Coord, Ending, Flash, Entry, Track, Dwell, Exit}
@@ -23,18 +23,18 @@ same_mode-itself (Track i) = itself i
 same_mode-itself (Dwell i) = itself i
 same_mode-itself (Exit i) = itself i
 
--- a run of modes goes on with one more moment of which its test holds
+-- a run of modes continues with one more moment of which its test holds
 pub goes_on : (test : Moment → Bool) (m : Moment) (past : List Moment) (since last : ℕ) → test m ≡ true
     → since + in_a_row test past ≡ last + 1 → since + in_a_row test (m ∷ past) ≡ last + 1 + 1
 goes_on test m past since last passes run = rw passes (omega (arith, run))
 
--- and begins anew where the test of the new mode fails at the last one
+-- and begins again where the test of the new mode fails at the last one
 pub begins : (test : Mode → Bool) (m : Moment) (past : List Moment) (now : ℕ) → test m.frame.mode ≡ true
     → test (last_frame past).mode ≡ false → now + in_a_row (λ m. test m.frame.mode) (m ∷ past) ≡ now + 1
 begins test m [] now passes fails = rw passes refl
 begins test m (n ∷ past) now passes fails = rw (passes, fails) refl
 
--- two modes that are told to be the same are one
+-- two modes that a test finds the same are one
 pub one-mode : (a b : Mode) → same_mode a b ≡ true → a ≡ b
 one-mode Start Start h = refl
 one-mode Free Free h = refl

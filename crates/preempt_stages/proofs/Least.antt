@@ -42,7 +42,7 @@ in-preempts test i above within = in-those-is test all_preempts i ∙ rw (listed
     and_true true = refl
     and_true false = refl
 
--- preempt k + 1 stands at place k
+-- preempt k + 1 is at place k
 place-of : (k : ℕ) → k < 8 → get_or all_preempts k 0 ≡ suc k
 place-of zero short = refl
 place-of (suc zero) short = refl

@@ -1,4 +1,4 @@
--- Goals and lesser times as code gives them.
+-- Goals and smaller times as code gives them.
 use Rattle.std.specs.Prelude.{ℕ, ◌≡◌, Option, Some, None}
 use Rattle.sig_types.specs.declared.frame.Mode.{Mode}
 use Rattle.sig_types.specs.declared.frame.Mode.TheVariants.{Seek}
@@ -16,7 +16,7 @@ abbrev pub AreSought : PhaseSet → Tables → Mode → Type 0
 AreSought s t (Seek n) = Has s (is_in (coordinated_phases t n))
 AreSought s t _ = Unit {0}
 
--- the lesser times of walk and pedestrian clearance as two numbers of ticks; none for the times in full
+-- the smaller times of walk and pedestrian clearance as two numbers of ticks; none for the times in full
 abbrev pub ticks_of : Lesser → Option (ℕ × ℕ)
 ticks_of InFull = None
 ticks_of (AtMost walk clear) = Some (walk, clear)

@@ -1,6 +1,6 @@
-//! Stages of preemption, as the tables in force and the last frame give them: the row of a preempt, the phases that a stage
-//! brings to green, the lesser times of the others, and what follows a stage by itself (NTCIP 1202, preempt objects; the
-//! stages and their rules are this project's own). Nothing is kept here from tick to tick.
+//! Stages of preemption, as the tables in force and the last frame give them: the row of a preempt, the phases that a
+//! stage brings to green, the smaller times of the others, and what follows a stage by itself (NTCIP 1202, preempt
+//! objects; the stages and their rules are this project's own). Nothing is kept here from tick to tick.
 #![tactic(auto)]
 
 mod goals;

@@ -50,15 +50,15 @@ pub fn same_stage(a: Mode, b: Mode) -> bool
     stage_of(a) == stage_of(b)
 }
 
-/// Whether a dwell goes on whatever its phases have shown: its preempt is called, or has been served for less than its least
-/// time.
+/// Whether a dwell continues whatever its phases have shown: its preempt is called, or has been served for less than
+/// its least time.
 pub fn holds_dwell(called: bool, served: u32, least: u32) -> bool
     ensures { result ≡ (called || nat_lt served least) }
 {
     called || served < least
 }
 
-/// When a run began that goes on, or begins now.
+/// When a run began that continues, or begins now.
 pub fn began(since: u32, goes_on: bool, now: u32) -> u32
     ensures { result ≡ (if goes_on then since else now) }
 {

@@ -1,4 +1,4 @@
--- What is kept stands for one moment more at which no request is active.
+-- What is kept represents one moment more at which no request is active.
 use Rattle.std.proofs.Common.{◌≡◌, ◌≢◌, ◌<◌, ◌≤◌, ◌==◌, ◌&&◌, not, ℕ, Bool, false, Option, None, Some, refl, sym, ◌∙◌, ap, arith}
 use Rattle.std.proofs.lemmas.Bool.{ne_eqb}
 use Rattle.sig_tables.specs.Past.{Past, Moment}

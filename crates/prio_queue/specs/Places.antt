@@ -18,7 +18,7 @@ abbrev pub was_cancelled : Option Kept → Bool
 was_cancelled None = false
 was_cancelled (Some p) = p.cancelled
 
--- it was given after at most so many ticks
+-- it was given after at most that many ticks
 abbrev pub IsGivenBy : ℕ → Option Kept → Type 0
 IsGivenBy ticks None = Unit {0}
 IsGivenBy ticks (Some p) = p.ticks ≤ ticks

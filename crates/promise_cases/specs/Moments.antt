@@ -27,7 +27,7 @@ moment_of tick colour counter target = record (first_moment std8) {
   };
 }
 
--- so many moments with the coordinated phases Green, this counter and this target, after those of so many ticks
+-- that many moments with the coordinated phases Green, this counter and this target, after those of that many ticks
 abbrev pub standing : ℕ → ℕ → ℕ → ℕ → List Moment → List Moment
 standing zero ticks counter target past = past
 standing (suc n) ticks counter target past = moment_of (suc n + ticks) Green counter target ∷ standing n ticks counter target past
@@ -36,11 +36,11 @@ standing (suc n) ticks counter target past = moment_of (suc n + ticks) Green cou
 abbrev pub red_zero : List Moment
 red_zero = moment_of 1 Red 0 0 ∷ opened ∷ []
 
--- so many ticks without a local zero
+-- that many ticks without a local zero
 abbrev pub without_zero : ℕ → List Moment
 without_zero n = standing n 0 5 5 (opened ∷ [])
 
--- a local zero on the offset, and then so many ticks at which counter and target are not equal
+-- a local zero on the offset, and then that many ticks at which counter and target are not equal
 abbrev pub off_target : ℕ → List Moment
 off_target n = standing n 1 5 6 (moment_of 1 Green 0 0 ∷ opened ∷ [])
 

@@ -1,5 +1,5 @@
-//! Lines and moments that are wrong in one way each, and do not meet what is promised of every trace: so a definition of a promise that
-//! loses a line fails here. What a safe street refuses is in safety_laws. The functions have no bodies.
+//! Lines and moments that are wrong in one way each and break a promise about traces: so if a definition of a promise
+//! loses a line, a proof here fails. The cases for a safe street are in `safety_laws`. The functions have no bodies.
 #![tactic(auto)]
 
 ghost use Rattle.std.specs.Prelude.{◌≡◌, true};

@@ -121,7 +121,7 @@ asc_few arcs low few = name_few _ (omega (arith, few, asc_name arcs, small_arcs 
 pub own_few : (arcs : List ℕ) → AllByRecursion (λ n. n < 128) arcs → length arcs ≤ 6 → length (name_text (own ++ arcs)) ≤ 22
 own_few arcs low few = name_few _ (omega (arith, few, own_name arcs, small_arcs arcs low))
 
--- a binding with a number, one that is asked for, and one with what stands in a cell
+-- a binding with a number, one that is asked for, and one with what is in a cell
 pub number_few : (name : Name) (n : ℕ) → length (name_text (arcs_of name)) ≤ 22 → length (binding_text (number_at name n)) ≤ 50
 unfolding value_text
 number_few name n few = bind_few (number_at name n) few (omega (arith, integer_few (pos n)))

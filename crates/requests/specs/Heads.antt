@@ -1,4 +1,4 @@
--- The Response to a request, as the head of a message tells it.
+-- The Response to a request, as the head of a message gives it.
 use Rattle.std.specs.Prelude.{ℤ, ◌&&◌, if◌then◌else◌, Bool, ℕ, List, Option, Some, None}
 use Rattle.std.specs.Ordering.{int_eq}
 use Rattle.std.specs.Option.{option_map}

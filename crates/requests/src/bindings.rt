@@ -44,7 +44,7 @@ pub fn asked_for(name: Name) -> Bind
     bound(name, Value::Null)
 }
 
-/// What stands in a cell, as a value.
+/// What is in a cell, as a value.
 fn cell_value(content: &CellValue) -> Value
     requires short { IsShort (content_of content.now) }
     ensures value { result ≡ value_of (content_of content.now) }

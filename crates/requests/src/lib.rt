@@ -1,4 +1,4 @@
-//! What goes over the link between the master and the cabinets, and the Responses that end what the master asks (RFC 1157).
+//! The messages between the master and the cabinets, and the Responses that end a request of the master (RFC 1157).
 //! Nothing here takes memory.
 #![tactic(auto)]
 

@@ -1,6 +1,6 @@
-//! Patterns chosen by counted traffic: a section has a level, from 0 on, that rises where the volume of a period reaches the
-//! threshold of a higher step, and falls only where the volume is below the lower threshold of its own step, so that it
-//! doesn't change to and fro.
+//! Patterns chosen by counted traffic: a section has a level, from 0 on. It rises if the volume of a period reaches the
+//! threshold of a higher step, and falls only if the volume is below the lower threshold of its own step, so that it
+//! doesn't change back and forth.
 #![tactic(auto)]
 
 ghost use Rattle.std.specs.Prelude.{ℕ, ◌≡◌, ◌≤◌, ◌↔◌, List, length};

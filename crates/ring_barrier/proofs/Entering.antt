@@ -64,7 +64,7 @@ entered w = first (can_enter w) (from_side w.tables (present_side w) (sides w.ta
 pub enters-zero : (w : Scene) → can_enter w 0 ≡ false
 enters-zero w = rw (nothing-in w.tables w.sequence 1, nothing-in w.tables w.sequence 2) refl
 
--- the sides behind the present one, and then those up to it
+-- the sides after the present one, and then those up to it
 abbrev pub rotated : ℕ → List ℕ → List ℕ → List ℕ
 rotated zero xs before = before ++ xs
 rotated (suc n) xs before = drop (suc n) xs ++ (before ++ take (suc n) xs)
@@ -85,7 +85,7 @@ rotated-none : (k : ℕ) (xs : List ℕ) → rotated k xs [] ≡ drop k xs ++ ta
 rotated-none zero xs = sym (append-nil xs)
 rotated-none (suc n) xs = refl
 
--- the first of the sides that passes stands behind the place of the present one, or up to it
+-- the first of the sides that passes follows the place of the present one, or up to it
 first-side : (t : Tables) (s : ℕ) (side : PhaseSet) (f : ℕ → Bool) (xs : List ℕ) → Has side (are_of_one_side t s)
     → first f (from_side t s xs [])
     ≡ or_else (first f (drop (place_after (is_member side) xs) xs)) (first f (take (place_after (is_member side) xs) xs))
@@ -105,7 +105,7 @@ pub or-else-second : (f : ℕ → Bool) (xs ys : List ℕ) (n m : ℕ) → f 0 �
     → m ≡ only (or_else (first f xs) ys)
 or-else-second f xs ys n m z e h a = a ∙ sym (only-or_else f xs ys z ∙ rw (← e, h) refl)
 
--- the first of the heads that passes, found behind the place of the present side, or up to it
+-- the first of the heads that passes, found after the place of the present side, or up to it
 pub side-behind : (t : Tables) (s : ℕ) (side : PhaseSet) (f : ℕ → Bool) (heads order : List ℕ) (turn n : ℕ) → Has side (are_of_one_side t s)
     → f 0 ≡ false → heads ≡ order → turn ≡ place_after (is_member side) heads → n ≡ only (first f (drop turn heads)) → n ≢ 0
     → n ≡ only (first f (from_side t s order []))

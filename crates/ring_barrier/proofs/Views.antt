@@ -39,7 +39,7 @@ earlier-none w r test e =
     (last_on r w.past) (order_of w.tables w.sequence r) (λ q. refl) (λ q. refl))
     ∙ first-none (λ q. is_present w r q && test q) _ e
 
--- the first later phase that passes stands behind the place of the one last on
+-- the first later phase that passes follows the place of the one last on
 pub later-walk : (w : Scene) (r : ℕ) (g h : PhaseSet) (test : ℕ → Bool) (order : List ℕ) (last : ℕ)
     → order ≡ order_of w.tables w.sequence r → last ≡ last_on r w.past
     → ((q : ℕ) → is_member g q ≡ (is_present w r q && (q == last))) → ((q : ℕ) → is_member h q ≡ (is_present w r q && test q))

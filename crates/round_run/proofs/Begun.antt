@@ -21,7 +21,7 @@ some_of : (xs : List Streams) (k : ℕ) → k < length xs → Streams
 some_of [] k below = absurd (omega (arith, below))
 some_of (x ∷ xs) k below = x
 
--- the streams that are taken next, and those that are left behind them
+-- the streams that are taken next, and those that are left after them
 pub record IsNext (streams rest : List Streams) (k : ℕ) (one : Streams) : Type 0 where
   pub within : k < length streams
   pub own : one ≡ get_or streams k one
@@ -71,7 +71,7 @@ begins-few streams old now k was one below begun is own can =
     subst (λ (x : Streams). ticks_by_end was + x.ticks ≤ 4294967294) (sym own)
     (subst (λ (b : Book). ticks_by_end b + (get_or streams k one).ticks ≤ 4294967294) (sym same) (can.few k was one below))
 
--- where memory was wanting, the book is as it was
+-- where memory ran out, the book is as it was
 pub begun-some : (streams : List Streams) (old now : List Book) (k : ℕ) (was new : Book) → k < length old
     → BegunTo streams old now k → was ≡ get_or now k was → new ≡ was → BeginsSome old (slice_set now k new) streams
 begun-some streams old now k was new below begun is stays = record {
@@ -94,7 +94,7 @@ begun-some streams old now k was new below begun is stays = record {
       ];
 }
 
--- a book that was at what its cabinet had come to has then run nothing of the streams that come
+-- a book that was at what its cabinet had reached has then run nothing of the streams that come
 pub begins-run : (s : ScenarioContent) (cab : ℕ) (t : CabinetState) (old new : Book) (one : Streams) → IsAt old t
     → items_of one ≡ coming_streams s cab t → Begins old new one → HasRun s cab t [] new
 begins-run s cab t old new one at coming begins = record {

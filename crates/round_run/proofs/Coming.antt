@@ -1,4 +1,4 @@
--- What has come to a book in a round: the state of its cabinet by it, its replies, and the lines of what came behind.
+-- What has reached a book in a round: the state of its cabinet by it, its replies, and the lines of what came after.
 use Rattle.std.proofs.Common.{◌≡◌, ◌∙◌, ℕ, List, [], ◌∷◌, ◌++◌, length, drop, refl, sym, ap, append_assoc, append-nil}
 use Rattle.std.proofs.lemmas.List.{drop-map, length-map}
 use Rattle.std.proofs.lemmas.List.Elements.{All-head, All-tail}
@@ -83,7 +83,7 @@ reply-lines cab (r ∷ first) more =
     ap (λ (lines : List Line). load_lines cab r.load ++ A cab r.pass r.text ∷ lines) (reply-lines cab first more)
     ∙ sym (append_assoc (load_lines cab r.load) (A cab r.pass r.text ∷ reply_lines cab first) (reply_lines cab more))
 
--- a tick has the line of its frame alone, and another item those of its reply
+-- a tick has only the line of its frame, and any other item the lines of its reply
 tick-line : (cab : ℕ) (cabinet_history : CabinetHistory) (pass : ℕ) (item : Item) → item ≡ Ticked
     → item_lines cab cabinet_history pass item ≡ frame_lines cab (item_written cabinet_history item)
 tick-line cab cabinet_history pass item tick =
@@ -117,7 +117,7 @@ others-lines cab cabinet_history (act ∷ acts) others =
     ∙ ap (λ (lines : List Line). reply_lines cab (item_replies cabinet_history act.pass act.item) ++ lines) (others-lines cab later acts (All-tail P act acts others))
     ∙ sym (reply-lines cab (item_replies cabinet_history act.pass act.item) (acts_replies later acts))
 
--- what a book has behind what it had
+-- what a book has after what it had
 module _ (t : CabinetState) (acts more : List Act) (old new : Book) (was : HasCome t acts old) (now : HasCome t (acts ++ more) new) where
   new-frames : drop (length (written_in old)) (written_in new) ≡ acts_written (after t.cabinet_history (items_in acts)) more
   new-frames =

@@ -58,7 +58,7 @@ next-cabinets (t ∷ ts) (u ∷ next) many same =
     ∙ ap (λ (cs : List CabinetContent). t.cabinet ∷ cs)
     (next-cabinets ts next (omega (arith, many)) (λ k v w below. same (suc k) v w (omega (arith, below))))
 
--- with the replies of the round the cabinets have answered what they have come to
+-- with the replies of the round the cabinets have answered what they have reached
 module _ (ts next : List CabinetState) (books : List Book) (ended : HaveEnded ts next books) where
   answered-here : (answered : ℕ → List (List Reply)) → AreAnswered answered ts → (k : ℕ) (u : CabinetState) → k < length ts
       → with_replies (replied books) answered (k + 1) ≡ (get_or next k u).answered

@@ -1,4 +1,4 @@
--- What the books of a round have come to.
+-- What the books of a round have reached.
 use Rattle.std.proofs.lemmas.List.{get_or_default}
 use Rattle.std.proofs.Common.{◌≡◌, ◌<◌, ◌+◌, ◌∙◌, ℕ, zero, suc, List, [], ◌∷◌, length, get_or, refl, sym, ap, subst, arith}
 use Rattle.scenario_data.specs.Content.{ScenarioContent}

@@ -1,4 +1,4 @@
--- All that comes to a cabinet is brought, pass after pass; and so to one cabinet after another.
+-- All that arrives at a cabinet is brought, pass after pass; and so to one cabinet after another.
 use Rattle.std.proofs.Common.{◌≡◌, ◌≢◌, ◌<◌, ◌≤◌, ◌+◌, ◌∙◌, ℕ, zero, suc, inl, inr, List, [], ◌∷◌, ◌++◌, length, take, drop, replicate, get_or, slice_set, refl, sym, ap, subst, append_assoc, append-nil, drop-cons, add-one, arith}
 use Rattle.std.proofs.lemmas.List.{append_cancel_right, get_or_default, get_or-map, length-set, replicate-append-replicate}
 use Rattle.std.proofs.lemmas.Bool.{cases_lt}
@@ -17,7 +17,7 @@ use Rattle.cab_book.proofs.OnePart.{one-tally, one-stays}
 use Rattle.round_run.specs.CabinetStates.{HasRun, HaveRun, no_journals, TicksWithin}
 use Rattle.round_run.specs.Joined.{Finishes}
 
--- so many items more of those of a pass: what is left of them comes behind these
+-- that many items more of those of a pass: what is left of them comes after these
 pub journal-more : (pass left many rest : ℕ) (before now whole : List ℕ) → now ≡ before ++ replicate many pass → rest + many ≡ left
     → before ++ replicate left pass ≡ whole → now ++ replicate rest pass ≡ whole
 journal-more pass left many rest before now whole is count so =

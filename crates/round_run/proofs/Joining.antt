@@ -14,7 +14,7 @@ use Rattle.round_run.specs.CabinetStates.{HasRun, HaveRun, no_journals, TicksWit
 use Rattle.round_run.specs.Joined.{journals_in, AreShared, HaveMerged, Finishes}
 use Rattle.round_run.proofs.Sharing.{shared-whole}
 
--- lists that stand side by side
+-- lists that are side by side
 module _ {A : Type 0} (R : A → A → Type 0) where
   pub zip-length : (xs ys : List A) → AllZip R xs ys → length ys ≡ length xs
   zip-length [] [] h = refl
@@ -32,7 +32,7 @@ module _ {A : Type 0} (R : A → A → Type 0) where
 abbrev pub BookComes : Book → Book → Type 0
 BookComes first left = ComesFrom journal_of left_of Replays first left
 
--- once all that was left has been brought, all that came to the first one has
+-- once everything that was left has been brought, everything that arrived at the first one has been brought
 pub whole-book : (first left now : Book) → BookComes first left → Finishes left now → Finishes first now
 whole-book first left now comes finishes = record {
   stands = λ cabinet_history stood. finishes.stands cabinet_history (comes.replays.cabinet_histories cabinet_history stood);
@@ -72,7 +72,7 @@ own_round s ts books k b t below have =
     subst (λ (passes : List ℕ). HasRun s (k + 1) (get_or ts k t) passes (get_or books k b)) (get_or-map (λ (u : CabinetState). []) ts k t [] below)
     (have.each k b t [] below)
 
--- the books have brought all that came to the first ones
+-- the books have brought everything that arrived at the first ones
 pub record AreWhole (old now : List Book) : Type 0 where
   pub many : length now ≡ length old
   pub each : (k : ℕ) (b : Book) → k < length old → Finishes (get_or old k b) (get_or now k b)

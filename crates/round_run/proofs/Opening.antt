@@ -38,7 +38,7 @@ pub others_open : (setups : List Setup) (i : ℕ) (c : Setup) → i < length set
     → AllOpen (map cabinet_content (drop i setups)) → AllOpen (map cabinet_content (drop (i + 1) setups))
 others_open setups i c more is can = (subst (λ (xs : List Setup). AllOpen (map cabinet_content xs)) (next_item setups i c more is) can).1
 
--- what a cabinet has come to before any round, by its place
+-- what a cabinet has reached before any round, by its place
 opened-at : (s : ScenarioContent) (cabinets : List CabinetContent) (k : ℕ) (t : CabinetState) (c : CabinetContent) → k < length cabinets
     → get_or (opened_cabinet_states s cabinets) k t ≡ opened_cabinet_state s (get_or cabinets k c)
 opened-at s [] k t c below = absurd (omega (arith, below))

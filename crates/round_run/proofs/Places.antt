@@ -2,7 +2,7 @@
 use Rattle.std.proofs.Common.{◌≡◌, ◌<◌, ◌+◌, ◌∙◌, ℕ, zero, suc, List, [], ◌∷◌, length, map, drop, drop-cons, get_or, add-one, Some, refl, sym, ap, arith}
 use Rattle.std.specs.List.{slice_get}
 
--- the item at a place, and those behind it
+-- the item at a place, and those after it
 pub record Picked {A : Type 0} (xs : List A) (i : ℕ) : Type 0 where
   pub item : A
   pub here : (d : A) → get_or xs i d ≡ item
@@ -16,7 +16,7 @@ pick (x ∷ xs) (suc i) below =
     let more : suc i + 1 ≡ suc (i + 1) = omega arith in
     record { item = found.item; here = found.here; next = found.next ∙ ap (λ (n : ℕ). found.item ∷ drop n (x ∷ xs)) (sym more) }
 
--- an item that a loop has come to
+-- an item that a loop has reached
 pub next_item : {A : Type 0} (xs : List A) (i : ℕ) (x : A) → i < length xs → x ≡ get_or xs i x → drop i xs ≡ x ∷ drop (i + 1) xs
 next_item xs i x below is = rw add-one (drop-cons xs i x below) ∙ ap (λ (y : _). y ∷ drop (i + 1) xs) (sym is)
 

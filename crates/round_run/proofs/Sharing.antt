@@ -42,7 +42,7 @@ shared-small old new is above one few p = elim (cases_lt p 4) [
   ]
 ]
 
--- all that came to a book whose ticks were shared is all that came to it before
+-- everything that arrived at a book whose ticks were shared is everything that had arrived at it before
 pub shared-whole : (parts : ℕ) (old new now : Book) → IsShared parts old new → Finishes new now → Finishes old now
 shared-whole parts old new now is finishes = record {
   stands = λ cabinet_history so. finishes.stands cabinet_history (shared-stands old new is.shares cabinet_history so);

@@ -52,7 +52,7 @@ input-place field [] heard is = absurd is
 input-place field (i ∷ inputs) heard (inl same) = has-place field (subst (λ (f : Field). HasPlace f) (sym same) heard.0)
 input-place field (i ∷ inputs) heard (inr other) = input-place field inputs heard.1 other
 
--- a round that is short, and whose inputs are those of the scenario, can be taken
+-- a round that is short, and whose inputs are those of the scenario, can be accepted
 can-be-taken : (s : ScenarioContent) (one : Streams) → Runnable s → IsShort one → AreInputs one.fields.items s.inputs → CanBeTaken one
 can-be-taken s one runnable short heard = record {
   placed = λ k field below. input-place (get_or one.fields.items k field) s.inputs runnable.heard (heard k field below);
@@ -66,7 +66,7 @@ can-be-taken s one runnable short heard = record {
 pub many-of : (s : ScenarioContent) (ts : List CabinetState) → cabinets_of ts ≡ s.cabinets → length ts ≡ length s.cabinets
 many-of s ts own = sym (length-map ts (λ (t : CabinetState). t.cabinet)) ∙ ap (λ (cs : List CabinetContent). length cs) own
 
--- the streams with which a round begins are those that come to the cabinets
+-- the streams with which a round begins are those that arrive at the cabinets
 module _ (s : ScenarioContent) (ts : List CabinetState) (own : cabinets_of ts ≡ s.cabinets) (b : Begun) (answered : ℕ → List (List Reply))
     (told : AreAnswered answered ts) (is : IsBegun b s answered) where
   begun-here : (k : ℕ) (t : CabinetState) (one : Streams) → k < length ts → items_of (get_or b.streams.items k one) ≡ coming_streams s (k + 1) (get_or ts k t)

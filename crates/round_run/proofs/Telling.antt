@@ -58,7 +58,7 @@ acts-told cab cabinet_history (act ∷ acts) =
     ∙ ap (λ (lines : List Line). lines ++ happening_lines cab (acts_happenings later acts)) (item-lines cab cabinet_history act.pass act.item)
     ∙ ap (λ (lines : List Line). item_lines cab cabinet_history act.pass act.item ++ lines) (acts-told cab later acts)
 
--- replies and frames, each reply behind as many frames as it says, have the lines that are written of them
+-- replies and frames, each reply after as many frames as it says, have the lines that are written of them
 told-same : (cab first : ℕ) (written : List (ℕ × Frame)) (answered : List Answered) → AreInOrder first answered (length written)
     → happening_lines cab (interleaved first (drop first written) answered) ≡ told_lines cab first written answered
 told-same cab first written [] order = wrote-lines cab (drop first written)
@@ -82,7 +82,7 @@ book-told s cab t journal b run =
     ∙ ap (λ (all : List Happening). happening_lines cab all) (sym run.stands.written.order)
     ∙ told-same cab 0 (written_in b) (answered_in b) run.stands.written.counts)
 
--- the next reply stands behind no fewer frames than the place so far, and behind no more than there are
+-- the next reply follows no fewer frames than the place so far, and after no more than there are
 pub order-ends : (first : ℕ) (answered : List Answered) (most : ℕ) → AreInOrder first answered most → first ≤ most
 order-ends first [] most order = order
 order-ends first (a ∷ answered) most order = omega (arith, order.0, order-ends a.behind answered most order.1)

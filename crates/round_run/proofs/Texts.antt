@@ -10,7 +10,7 @@ use Rattle.cab_book.specs.declared.happened.Answered.{Answered}
 use Rattle.cab_book.specs.Happenings.{replies_in}
 use Rattle.round_run.specs.Replied.{replied_in, AreAnswers, EachAnswers}
 
--- what of the replies from here on stands on a stream
+-- what of the replies from here on is on a stream
 abbrev pub left_on : ℕ → List Answered → List (List ℕ)
 left_on pass answered = replied_on pass (answers_in (replies_in answered))
 

@@ -1,5 +1,5 @@
--- What books stand for in a run: between rounds each is at what its cabinet has come to; within a round each has run a journal of the
--- streams that come to its cabinet. Cabinets are counted from 1, in their order.
+-- What books represent in a run: between rounds each is at what its cabinet has reached; within a round each has run a
+-- journal of the streams that arrive at its cabinet. Cabinets are counted from 1, in their order.
 use Rattle.std.specs.Prelude.{ℕ, ◌+◌, ◌≡◌, ◌<◌, ◌≤◌, List, [], ◌∷◌, map, length, get_or, All}
 use Rattle.scenario_data.specs.Content.{ScenarioContent}
 use Rattle.sig_types.specs.Items.{Ticked}
@@ -12,7 +12,7 @@ use Rattle.cab_book.specs.declared.control.Engine.{Engine}
 use Rattle.cab_book.specs.Books.{BookStands, IsOnePart, streams_in, journal_of, acts_in, cabinet_history_now, engine_of, ticks_by_end}
 use Rattle.round_run.specs.Replied.{replied_in}
 
--- a book is at what its cabinet has come to
+-- a book is at what its cabinet has reached
 pub record IsAt (b : Book) (t : CabinetState) : Type 0 where
   pub began : CabinetHistory
   pub stands : BookStands b began
@@ -27,8 +27,8 @@ pub record AreAt (books : List Book) (ts : List CabinetState) : Type 0 where
 abbrev pub AreGivenBy : Engine → List Book → Type 0
 AreGivenBy engine books = All (λ (b : Book). engine_of b ≡ engine) books
 
--- of the round to come at the cabinet with this number, which had come to this before it, a book has run a journal, whose ticks are
--- those of one pass
+-- of the round to come at the cabinet with this number, which had reached this before it, a book has run a journal,
+-- whose ticks are those of one pass
 pub record HasRun (s : ScenarioContent) (cab : ℕ) (t : CabinetState) (journal : List ℕ) (b : Book) : Type 0 where
   pub stands : BookStands b t.cabinet_history
   pub streams : streams_in b ≡ coming_streams s cab t
@@ -46,13 +46,14 @@ pub record HaveRun (s : ScenarioContent) (ts : List CabinetState) (journals : Li
 abbrev pub no_journals : List CabinetState → List (List ℕ)
 no_journals ts = map (λ t. []) ts
 
--- to the book of a cabinet, which had come to this before the round, these acts have come in the round; its ticks are those of one pass
+-- to the book of a cabinet, which had reached this before the round, these acts have come in the round; its ticks are
+-- those of one pass
 pub record HasCome (t : CabinetState) (acts : List Act) (b : Book) : Type 0 where
   pub stands : BookStands b t.cabinet_history
   pub acts_are : acts_in b ≡ acts
   pub one : IsOnePart b
 
--- what a cabinet has come to by these acts of a round
+-- what a cabinet has reached by these acts of a round
 abbrev pub state_by_acts : CabinetState → List Act → CabinetState
 state_by_acts t acts = record {
   cabinet = t.cabinet;
@@ -60,14 +61,15 @@ state_by_acts t acts = record {
   answered = answers_in (acts_replies t.cabinet_history acts) ∷ t.answered;
 }
 
--- these acts are ticks alone, or have none among them
+-- these acts are only ticks, or have none among them
 abbrev pub AreTicks : List Act → Type 0
 AreTicks acts = All (λ (act : Act). act.item ≡ Ticked) acts
 
 abbrev pub HaveNoTicks : List Act → Type 0
 HaveNoTicks acts = All (λ (act : Act). act.item ≡ Ticked → ⊥) acts
 
--- a cabinet had come to the first before a round and has come to the other by now; its book is there, and its replies are what was added
+-- a cabinet had reached the first before a round and has reached the other by now; its book is there, and its replies
+-- are what was added
 pub record HasEnded (t u : CabinetState) (b : Book) : Type 0 where
   pub at : IsAt b u
   pub cabinet : u.cabinet ≡ t.cabinet
@@ -79,6 +81,7 @@ pub record HaveEnded (ts next : List CabinetState) (books : List Book) : Type 0 
   pub as_many : length next ≡ length ts
   pub each : (k : ℕ) (t u : CabinetState) (b : Book) → k < length ts → HasEnded (get_or ts k t) (get_or next k u) (get_or books k b)
 
--- each cabinet will have had at most so many ticks by the end of its round: after so many rounds, at most the ticks of a round for each
+-- each cabinet will have had at most that many ticks by the end of its round: after that many rounds, at most the ticks
+-- of a round for each
 abbrev pub TicksWithin : ℕ → List Book → Type 0
 TicksWithin most books = (k : ℕ) (b : Book) → k < length books → ticks_by_end (get_or books k b) ≤ most

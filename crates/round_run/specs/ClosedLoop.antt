@@ -8,7 +8,7 @@ use Rattle.master_rounds.specs.RoundsStand.{MasterRoundsStands, HasBegun}
 use Rattle.round_run.specs.CabinetStates.{AreAt, TicksWithin}
 use Rattle.round_run.specs.declared.rounds.ClosedLoop.{ClosedLoop}
 
--- the cabinets that have come to this
+-- the cabinets that have reached this
 abbrev pub cabinets_of : List CabinetState → List CabinetContent
 cabinets_of ts = map (λ (t : CabinetState). t.cabinet) ts
 
@@ -16,8 +16,8 @@ cabinets_of ts = map (λ (t : CabinetState). t.cabinet) ts
 abbrev pub AreAnswered : (ℕ → List (List Reply)) → List CabinetState → Type 0
 AreAnswered answered ts = (k : ℕ) (t : CabinetState) → k < length ts → answered (k + 1) ≡ (get_or ts k t).answered
 
--- so many rounds were run, and the cabinets have come to this: so have their books, and master and line stand for what the cabinets have
--- answered
+-- that many rounds were run, and the cabinets have reached this: so have their books, and master and line represent
+-- what the cabinets have answered
 pub record Between (s : ScenarioContent) (done : ℕ) (ts : List CabinetState) (c : ClosedLoop) : Type 0 where
   pub cabinets : cabinets_of ts ≡ s.cabinets
   pub books : AreAt c.books.items ts
@@ -33,6 +33,7 @@ pub record MasterRoundsHasBegun (s : ScenarioContent) (done : ℕ) (ts : List Ca
   pub told : AreAnswered answered ts
   pub master_rounds : HasBegun d s (done + 1) answered
 
--- so many rounds were run, by which the cabinets have come to this, and the next has begun; what its books have run is told apart
+-- that many rounds were run, by which the cabinets have reached this, and the next has begun; what its books have run
+-- is distinguished
 abbrev pub InRound : ScenarioContent → ℕ → List CabinetState → ClosedLoop → Type 0
 InRound s done ts c = MasterRoundsHasBegun s done ts c.master_rounds

@@ -1,4 +1,5 @@
--- What workers in threads make of a round: each book has brought all that came to its cabinet, in an order that they settled.
+-- What workers in threads make of a round: each book has brought all that arrived at its cabinet, in an order that they
+-- settled.
 use Rattle.std.specs.Prelude.{ℕ, ◌≡◌, ◌≢◌, ◌<◌, ◌≤◌, ◌+◌, ◌++◌, List, [], length, get_or, map, replicate, All}
 use Rattle.scenario_data.specs.Content.{ScenarioContent}
 use Rattle.run_definition.specs.CabinetState.{CabinetState}
@@ -29,7 +30,7 @@ pub record HaveMerged (s : ScenarioContent) (ts : List CabinetState) (books : Li
   pub merges : EachMerges s 1 ts (journals_in books)
   pub run : HaveRun s ts (journals_in books) books
 
--- so many of the next items of a stream were brought
+-- that many of the next items of a stream were brought
 pub record BringsSome (old new : Book) (stream : Stream) (many : ℕ) : Type 0 where
   pub stands : (cabinet_history : CabinetHistory) → BookStands old cabinet_history → BookStands new cabinet_history
   pub streams : streams_in new ≡ streams_in old
@@ -47,7 +48,7 @@ pub record Finishes (old new : Book) : Type 0 where
   pub one : IsOnePart new
   pub ticks : ticks_by_end new ≡ ticks_by_end old
 
--- the ticks of a book's round are shared in so many parts, and nothing else of it is changed
+-- the ticks of a book's round are shared in that many parts, and nothing else of it is changed
 pub record IsShared (parts : ℕ) (old new : Book) : Type 0 where
   pub parts_are : (k : ℕ) → k < 4 → left_of new (4 + k) ≡ get_or (shares parts (length (get_or (streams_in old) 4 []))) k 0
   pub shares : Shares old new

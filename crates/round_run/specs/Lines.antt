@@ -1,4 +1,5 @@
--- The lines of a cabinet's round as they are written of its book: its journal, and the replies, each behind the frames before it.
+-- The lines of a cabinet's round as they are written of its book: its journal, and the replies, each after the frames
+-- before it.
 use Rattle.std.specs.Prelude.{ℕ, ◌-◌, List, [], ◌∷◌, ◌++◌, length, take, drop}
 use Rattle.sig_types.specs.declared.frame.Frame.{Frame}
 use Rattle.trace_text.specs.declared.lines.Line.{Line}
@@ -19,8 +20,8 @@ frames_between first end written = take (end - first) (drop first written)
 abbrev pub answer_lines : ℕ → Reply → List Line
 answer_lines cab r = load_lines cab r.load ++ A cab r.pass r.text ∷ []
 
--- the lines of these replies, each behind the frames before it, and of the frames behind the last; the frames before a first place
--- have theirs already
+-- the lines of these replies, each after the frames before it, and of the frames after the last; the frames before a
+-- first place have theirs already
 abbrev pub told_lines : ℕ → ℕ → List (ℕ × Frame) → List Answered → List Line
 told_lines cab first written [] = frame_lines cab (drop first written)
 told_lines cab first written (a ∷ answered) =
@@ -30,7 +31,7 @@ told_lines cab first written (a ∷ answered) =
 abbrev pub book_lines : ℕ → Book → List Line
 book_lines cab b = J cab (runs_of (journal_of b)) ∷ told_lines cab 0 (written_in b) (answered_in b)
 
--- the lines of the frames that a book has behind those of an earlier one, and of the replies
+-- the lines of the frames that a book has after those of an earlier one, and of the replies
 abbrev pub new_frame_lines : ℕ → Book → Book → List Line
 new_frame_lines cab old new = frame_lines cab (drop (length (written_in old)) (written_in new))
 

@@ -14,12 +14,12 @@ pub record CanOpen (books : List Book) (streams : List Streams) : Type 0 where
   pub taken : (k : ℕ) (one : Streams) → k < length books → CanBeTaken (get_or streams k one)
   pub few : (k : ℕ) (b : Book) (one : Streams) → k < length books → ticks_by_end (get_or books k b) + (get_or streams k one).ticks ≤ 4294967294
 
--- the streams are those that come to the cabinets, which have come to this
+-- the streams are those that arrive at the cabinets, which have reached this
 pub record AreComing (s : ScenarioContent) (ts : List CabinetState) (streams : List Streams) : Type 0 where
   pub many : length streams ≡ length ts
   pub each : (k : ℕ) (t : CabinetState) (one : Streams) → k < length ts → items_of (get_or streams k one) ≡ coming_streams s (k + 1) (get_or ts k t)
 
--- a round has so many ticks at most
+-- a round has at most this number of ticks
 abbrev pub TicksAtMost : ℕ → List Streams → Type 0
 TicksAtMost ticks streams = (k : ℕ) (one : Streams) → k < length streams → (get_or streams k one).ticks ≤ ticks
 

@@ -19,8 +19,8 @@ use std::thread::Threads;
 /// Fewer ticks than these, of all cabinets in a round, are few: one pass brings them all.
 const FEW_TICKS: u64 = 16_384;
 
-/// In how many parts so many workers share so many ticks of a round: one for up to five workers and for few ticks, two
-/// for six, and four for more.
+/// In how many parts that many workers share that many ticks of a round: one for up to five workers and for few ticks,
+/// two for six, and four for more.
 fn parts_for(workers: u32, ticks: u64) -> u32
     ensures parts { (result ≡ 1) ⊎ (result ≡ 2) ⊎ (result ≡ 4) }
     ensures one { workers ≤ 5 → result ≡ 1 }
@@ -61,7 +61,7 @@ fn meets_two_passes(book: &Book) -> bool {
     false
 }
 
-/// Whether the serial order is the only one in which so many workers bring what comes: one worker brings it, or each
+/// Whether the serial order is the only one in which that many workers bring what comes: one worker brings it, or each
 /// cabinet has items of one pass only.
 fn has_one_order(books: &[Book], workers: u32) -> bool {
     if workers == 1 {
@@ -75,7 +75,7 @@ fn has_one_order(books: &[Book], workers: u32) -> bool {
     true
 }
 
-/// Shares the ticks of each book's round, to which nothing was brought yet, in so many parts.
+/// Shares the ticks of each book's round, to which nothing was brought yet, in that many parts.
 fn share_ticks(books: &mut Vec<Book>, parts: u32)
     requires parts { (parts ≡ 1) ⊎ (parts ≡ 2) ⊎ (parts ≡ 4) }
     requires fresh { AreFresh books.old.items }

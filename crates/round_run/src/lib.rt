@@ -1,9 +1,7 @@
-//! A round of all cabinets: their books begin it with what reaches each, all of it is brought, and what they replied
-//! goes back to the master. The state of a book, and the lines that are written of it, are those of a run.
-//!
+//! A round of all cabinets: their books begin it with the items that reach each of them, all of these are brought, and
+//! the replies go back to the master. The state of a book, and the lines that are written of it, are those of a run.
 //! The closed loop of a run: the master, and the books of all cabinets. It is opened from a scenario, and each round is
-//! begun and ended here; others bring what reaches the cabinets in between, in whatever order. Nothing is read or
-//! written.
+//! begun and ended here; in between, callers bring what reaches the cabinets, in any order. Nothing is read or written.
 #![tactic(auto)]
 
 mod books;

@@ -17,9 +17,9 @@ ghost use Rattle.round_run.specs.CabinetStates.{IsAt, AreAt, AreTicks, HasCome, 
 ghost use Rattle.round_run.specs.Replied.{replied_in};
 ghost use Rattle.round_run.specs.Lines.{book_lines, new_frame_lines, new_reply_lines};
 
-/// A book to which nothing was brought is at what its cabinet history says. After a round a book is at what the cabinet has come to by the
-/// round's journal, and what it replied is what the round adds to the answers. The lines of the cabinet's round are those that are
-/// written of its book, in whose replies no two are out of order.
+/// A book to which nothing was brought is at what its cabinet history says. After a round a book is at what the cabinet
+/// has reached by the round's journal, and what it replied is what the round adds to the answers. The lines of the
+/// cabinet's round are those that are written of its book, in whose replies no two are out of order.
 pub fn books_follow_runs()
     ensures new { (b : BookRow) (t : CabinetState) → BookStands b t.cabinet_history → journal_of b ≡ [] → IsAt b t }
     ensures next { (s : ScenarioContent) (cab : ℕ) (t : CabinetState) (journal : List ℕ) (b : BookRow)

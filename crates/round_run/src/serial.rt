@@ -59,7 +59,8 @@ pub fn bring_beginning(book: &mut Book)
     }
 }
 
-/// Brings all that is left to come to a cabinet in a round, stream after stream; the ticks are made those of one pass first.
+/// Brings all that is left to arrive at a cabinet in a round, stream after stream; the ticks are made those of one pass
+/// first.
 fn bring_round(book: &mut Book)
     ensures run { (s : ScenarioContent) (cab : ℕ) (t : CabinetState) → HasRun s cab t [] book.old
         → HasRun s cab t (serial (coming_streams s cab t)) book.new }

@@ -1,4 +1,4 @@
-//! The start of a round: each book takes the streams that come to its cabinet.
+//! The start of a round: each book takes the streams that arrive at its cabinet.
 
 ghost use Rattle.std.specs.Prelude.{ℕ, ◌≡◌, ◌<◌, ◌+◌, List, length, OnOk, OnErr};
 ghost use Rattle.scenario_data.specs.Content.{ScenarioContent};
@@ -11,9 +11,9 @@ use cab_book::Book;
 use sig_types::{NoMemory, Streams};
 use std::alloc::Global;
 
-/// Begins a round on each book, with the streams that come to its cabinet; what was left of the round before is dropped. All memory
-/// that the books need in the round is taken here. Where it is wanting, some of the books have begun the round, and the
-/// others are as before.
+/// Begins a round on each book, with the streams that arrive at its cabinet; what was left of the round before is
+/// dropped. All memory that the books need in the round is taken here. Where it is wanting, some of the books have
+/// begun the round, and the others are as before.
 pub fn open_rounds(
     alloc: Global,
     books: &mut Vec<Book>,

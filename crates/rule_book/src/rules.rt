@@ -40,8 +40,8 @@ pub enum PhaseRule {
 pub enum SequenceRule {
     /// Rule 8: each ring's order has each enabled phase of the ring once, and nothing else (NTCIP 1202 section 2.8.3.3).
     EachPhaseOnce,
-    /// Rule 9: the phases of a side of the barrier stand together, and the sides have one order in both rings
-    /// (NTCIP 1202 section 2.8.3.3).
+    /// Rule 9: the phases of a side of the barrier are together, and the sides have one order in both rings (NTCIP 1202
+    /// section 2.8.3.3).
     SideOrder,
 }
 

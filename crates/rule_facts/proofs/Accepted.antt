@@ -1,4 +1,4 @@
--- Tables that are accepted beside those in force have their layout, and keep the rules alone.
+-- Tables that are accepted beside those in force have their layout, and keep the rules by themselves.
 use Rattle.std.proofs.Common.{◌≡◌, inl, inr, ℕ, Bool, true, false, not, ◌&&◌, ◌||◌, if◌then◌else◌, ◌==◌, List, [], ◌∷◌, refl, sym, ◌∙◌, subst}
 use Rattle.std.proofs.lemmas.Bool.{cases_Bool, and_parts, and_from, both_ways, not-true}
 use Rattle.std.proofs.lemmas.Bool.Decides.{Decides-eqb}
@@ -41,7 +41,7 @@ kept-phase new old p h = split (is_enabled new p) refl h
         let off : is_enabled old p ≡ false = not-true _ k in
         record { enabled = e ∙ sym off; ring = λ o. absurd (both_ways _ off o); lists = λ o. absurd (both_ways _ off o) }
 
--- what is no phase is enabled in no tables
+-- what is not a phase is enabled in no tables
 no-phase : (t : Tables) (p : ℕ) → is_phase p ≡ false → is_enabled t p ≡ false
 no-phase t p h = rw h refl
 
@@ -109,7 +109,7 @@ keeps-own t p = split (is_enabled t p) refl
         (and_from _ _ e ((Decides-eqb (ring_of t p) (ring_of t p)).1 refl)) (same-itself (neighbours t p))
     split false e = rw e refl
 
--- the other rules speak of one table alone
+-- the other rules speak of only one table
 other-rules : (t u : Tables) (flashing : Bool) (rule : Rule) (row : ℕ) → breaks t u flashing rule row ≡ false → breaks t t false rule row ≡ false
 other-rules t u flashing (OnPhase rule) row e = e
 other-rules t u flashing (OnSequence rule) row e = e

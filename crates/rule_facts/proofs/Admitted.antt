@@ -21,7 +21,7 @@ flash-dark : (mode : Mode) → same_mode mode Flash ≡ true → is_dark mode �
 flash-dark Flash h = refl
 flash-dark _ h = absurd (false≢true h)
 
--- tables that broke no rule are sound, and keep the layout, but for where the cabinet flashes
+-- tables that broke no rule are sound, and keep the layout, except where the cabinet flashes
 lawful-tables : (t : Tables) (past : Past) (flashing : Bool) → is_flashing past ≡ flashing → broken t past.tables flashing ≡ []
     → Sound t × ((is_dark (last_frame past.moments).mode ≡ true) ⊎ SameLayout past.tables t)
 lawful-tables t past true e h = (sound t (accepted-consistent t past.tables true h), inl (flash-dark (last_frame past.moments).mode e))

@@ -30,7 +30,7 @@ all-consistent opening events a =
     (λ before t b allowed h. (accepted-consistent t (past_of opening before).tables (is_flashing (past_of opening before)) allowed, h.1))
     events a.1
 
--- each enabled phase stands in the first sequence of consistent tables
+-- each enabled phase is in the first sequence of consistent tables
 in-first : (t : Tables) (q : ℕ) → Consistent t → is_enabled t q ≡ true → is_in (order_of t 1 (ring_of t q)) q ≡ true
 in-first t q c e = ((sequences-serve t c 1 refl refl).ring (ring_of t q) ((sound t c).ring q e)).listed q e refl
 

@@ -49,7 +49,7 @@ sequence-used t n k d =
     let names : NamesThere t n = names-of t n k d in
     k.sequences (pattern_of t n).sequence names.sequence names.used
 
--- an enabled phase stands in the order of its ring
+-- an enabled phase is in the order of its ring
 in-order : (t : Tables) (n p : ℕ) → KeepsRules t → is_defined t n ≡ true → is_enabled t p ≡ true → is_in (pattern_order t n (ring_of t p)) p ≡ true
 in-order t n p k d e =
     counted-member (pattern_order t n (ring_of t p)) p
@@ -167,7 +167,7 @@ record Defined (t : Tables) (n : ℕ) : Type 0 where
   here : is_defined t n ≡ true
   pair : Coordinates t n
 
--- where both coordinated phases hold for so many ticks, each does
+-- where both coordinated phases hold for that many ticks, each does
 room-held : (t : Tables) (n q ticks : ℕ) → Defined t n → is_coordinated t n q ≡ true → holds_for t n ticks ≡ true → Room t n q (zero_point t n + ticks)
 room-held t n q ticks k c h =
     let both = and_parts (leaves_room t n (coordinated_phase t n 1) (zero_point t n + ticks))

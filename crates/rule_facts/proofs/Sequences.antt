@@ -30,7 +30,7 @@ ring-served t s r k which =
       | inr e ↦ subst (λ (x : ℕ). serves_ring t s x ≡ true) (sym e) both.1
     ]
 
--- each enabled phase of the ring stands in it once
+-- each enabled phase of the ring is in it once
 pub listed-once : (t : Tables) (s r p : ℕ) → SequenceRules t s → (r ≡ 1) ⊎ (r ≡ 2) → is_enabled t p ≡ true → ring_of t p ≡ r
     → times_in (order_of t s r) p ≡ 1
 listed-once t s r p k which e at =
@@ -55,7 +55,7 @@ serves t s r k which = record {
       (c.0, eq-true _ _ c.1);
 }
 
--- an enabled phase stands in its ring
+-- an enabled phase is in its ring
 pub in-own-ring : (t : Tables) (s p : ℕ) → InUse t s → is_enabled t p ≡ true → is_in (order_of t s (ring_of t p)) p ≡ true
 in-own-ring t s p k e = (serves t s (ring_of t p) k.kept (in-ring t p k.rules e)).listed p e refl
 

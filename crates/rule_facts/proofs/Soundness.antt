@@ -16,7 +16,7 @@ use Rattle.rule_facts.proofs.Times.{times-hold}
 use Rattle.rule_facts.proofs.Plan.{plan-holds}
 use Rattle.rule_facts.proofs.Sequences.{sequence-serves}
 
--- each enabled phase stands in the order of its ring in the sequence of each defined pattern
+-- each enabled phase is in the order of its ring in the sequence of each defined pattern
 in-order : (t : Tables) → KeepsRules t → (n p : ℕ) → is_defined t n ≡ true → is_enabled t p ≡ true → is_in (pattern_order t n (ring_of t p)) p ≡ true
 in-order t k n p d e =
     let names : NamesThere t n = (plan-holds t k n d).names in

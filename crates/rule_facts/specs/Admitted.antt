@@ -15,7 +15,7 @@ use Rattle.tick_laws.specs.Walking.{EachQuiet}
 abbrev pub is_flashing : Past → Bool
 is_flashing past = same_mode (last_frame past.moments).mode Flash
 
--- the event may come after these: a download broke no rule beside the tables that it replaces
+-- the event may come after these: a download broke no rule together with the tables that it replaces
 abbrev pub IsAdmittedAfter : Tables → List Event → Event → Type 0
 IsAdmittedAfter opening before (Install t) = broken t (past_of opening before).tables (is_flashing (past_of opening before)) ≡ []
 IsAdmittedAfter opening before _ = Unit {0}

@@ -35,7 +35,7 @@ at_last h = brief (moment_seen (past_at h))
 unfoldable pub long_revert : Tables
 long_revert = record std8 { phases = set std8.phases 1 (record (row std8 2) { red_revert = 255 }) }
 
--- a car in the left turn that takes turns with phase 2 in its ring, 16 seconds before local zero comes again: 960 ticks
+-- a car in the left turn that takes turns with phase 2 in its ring, 16 seconds before local zero is repeated: 960 ticks
 abbrev pub late_turn : Tables → History
 late_turn t = commanded t (ticks 160 (Input (Veh 1 false) ∷ ticks 1 (Input (Veh 1 true) ∷ ticks 799 [])))
 

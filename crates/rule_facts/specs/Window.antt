@@ -1,4 +1,5 @@
--- What becomes of the offset under a plan that breaks the rule on the window (FHWA Signal Timing Manual: offset, transition).
+-- What results from the offset under a plan that breaks the rule on the window (FHWA Signal Timing Manual: offset,
+-- transition).
 use Rattle.std.specs.Prelude.{ℕ, Bool, List, [], ◌∷◌, replicate}
 use Rattle.sig_types.specs.declared.frame.Mode.{Mode}
 use Rattle.sig_tables.specs.declared.tables.Tables.{Tables}
@@ -14,8 +15,8 @@ use Rattle.plan_facts.specs.Bounds.{offset_bound}
 use Rattle.plan_facts.specs.Meets.{zero_target, offset_in_time}
 use Rattle.plan_facts.specs.Rows.{ticks}
 
--- the coordinated phases have 6 seconds of a cycle of 51, and clear for 5.5 of them, so that the window is 5 ticks; one cycle may stand
--- for 50 (rule 19)
+-- the coordinated phases have 6 seconds of a cycle of 51, and clear for 5.5 of them, so that the window is 5 ticks; one
+-- cycle may wait for 50 ticks (rule 19)
 unfoldable pub short_window : Tables
 short_window = record std8 {
   patterns = record first_pattern { cycle = 51 } ∷ replicate 47 no_pattern;
@@ -23,7 +24,8 @@ short_window = record std8 {
   unit = record std8.unit { mode = 4 };
 }
 
--- a cabinet with these tables that commands the standard pattern and is picked up five seconds ahead of the offset: so many ticks
+-- a cabinet with these tables that commands the standard pattern and is picked up five seconds ahead of the offset:
+-- that many ticks
 abbrev pub five_ahead : Tables → ℕ → History
 five_ahead t n = record { tables = t; command = 1; clock = 400; events = ticks n [] }
 

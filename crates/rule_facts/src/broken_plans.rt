@@ -1,6 +1,6 @@
 //! Plans that break one rule, and their effect on the street: what the rules of coordination are for. Each cabinet is
 //! followed over a cycle of 90 seconds, or for as long as its offset may take to be met. The functions have no bodies:
-//! each represents the laws of its contract. (FHWA Signal Timing Manual: coordination, offset, transition.)
+//! their contracts are the laws. (FHWA Signal Timing Manual: coordination, offset, transition.)
 ghost use Rattle.std.specs.Prelude.{◌≡◌, false, [], ◌∷◌};
 ghost use Rattle.sig_types.specs.declared.frame.Colour.TheVariants.{Green, Red};
 ghost use Rattle.sig_types.specs.declared.frame.Mode.TheVariants.{Coord};

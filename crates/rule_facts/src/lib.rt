@@ -1,6 +1,6 @@
 //! What consistent tables give the layers above: laws of barrier groups, sequences, goals and patterns that follow from
-//! the consistency rules; and what each rule of a plan is for, by a plan that breaks only it. The functions do nothing:
-//! each represents the law of its contract, which callers cite.
+//! the consistency rules; and what each rule about a plan is for, by a plan that breaks only that rule. The functions
+//! do nothing: their contracts are the laws, which callers cite.
 #![tactic(auto)]
 
 mod broken_plans;
@@ -66,8 +66,8 @@ pub fn standard_sound()
     standard_consistent();
 }
 
-/// Tables that break no rule beside those in force, in a cabinet that does not flash, keep which phases are enabled, their
-/// rings, and which of them are concurrent.
+/// Tables that break no rule together with those in force, in a cabinet that does not flash, keep which phases are
+/// enabled, their rings, and which of them are concurrent.
 pub fn same_layout()
     ensures { (t in_force : Tables) → broken t in_force false ≡ [] → SameLayout in_force t }
 {}
@@ -83,9 +83,9 @@ pub fn sides_hold()
     ensures { (t : Tables) → Consistent t → SidesHold t }
 {}
 
-/// Each sequence in use has each enabled phase of a ring once in that ring and nothing else; the phases of a side stand
-/// together in it, and the sides have one order in both rings (NTCIP 1202, sequences). The sequences are 1 to 16; in use
-/// are the first, and each that has phases.
+/// Each sequence in use has each enabled phase of a ring once in that ring and nothing else; the phases of a side are
+/// together in it, and the sides have one order in both rings (NTCIP 1202, sequences). The sequences are 1 to 16; in
+/// use are the first, and each that has phases.
 pub fn sequences_serve()
     ensures { (t : Tables) → Consistent t → (s : ℕ) → is_phase s ≡ true → is_used t s ≡ true → SequenceServes t s }
 {}
@@ -113,8 +113,8 @@ pub fn plan_holds()
     ensures { (t : Tables) → Consistent t → (n : ℕ) → is_defined t n ≡ true → PlanHolds t n }
 {}
 
-/// The force point of an enabled phase is a true residue of the cycle, whatever the tables are: with any number of whole
-/// cycles added that leaves nothing below 0, the last moment that leaves room for its clearance in its slot, and for the
+/// The force point of an enabled phase is a true residue of the cycle, for any tables: with any number of whole cycles
+/// added that leaves nothing below 0, the last moment that leaves room for its clearance in its slot, and for the
 /// greatest of its side before the side ends, lies at that point after local zero.
 pub fn force_is_residue()
     ensures { (t : Tables) (n p cycles : ℕ) → is_defined t n ≡ true → is_enabled t p ≡ true → AreEnough t n p cycles
@@ -190,10 +190,10 @@ pub fn needs_start_up()
     ensures apart { are_concurrent both_streets 4 6 ≡ false }
 {}
 
-/// A history that opens with consistent tables, and whose downloads each broke no rule beside the tables that they replaced,
-/// is one that the laws of safety speak of. A cabinet that flashes may take tables of another layout. At no tick, whatever
-/// the mode, are two incompatible phases green, yellow or in red clearance together, nor two phases of one ring, nor do two
-/// incompatible ones walk together, and a disabled phase is red and steady don't walk.
+/// A history that opens with consistent tables, and whose downloads each broke no rule together with the tables that
+/// they replaced, is one that the laws of safety speak of. A cabinet that flashes may take tables of another layout. At
+/// no tick, in every mode, are two incompatible phases green, yellow or in red clearance together, nor two phases of
+/// one ring, nor do two incompatible ones walk together, and a disabled phase is red and steady don't walk.
 pub fn admitted_is_safe()
     ensures lawful { (opening : Tables) (events : List Event) → Admitted opening events → Lawful opening events }
     ensures apart { (h : History) → Admitted h.tables (since_opening h) → KeepsApart h }

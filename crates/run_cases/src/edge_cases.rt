@@ -1,6 +1,8 @@
 //! Sources and sinks that move small pieces, the bytes that each call moves and the calls that fail; and the adapters over a reader and
 //! over a writer in memory.
 use io_edge::{Failed, MemSink, MemSource, Sink, Source, StdSink, StdSource};
+use std::fs::File;
+use std::io::{BufReader, BufWriter};
 use std::test::Fail;
 
 #[test]
@@ -54,6 +56,49 @@ fn a_sink_over_a_writer_gives_it_the_bytes(rt: HostRuntime) -> Result<(), Fail> 
     assert!(rt; sink.write(b"34") == Ok(2));
     assert!(rt; sink.write(b"12") == Ok(2));
     let bytes: Vec<u8> = sink.into_inner();
+    assert!(rt; bytes.as_slice() == &b"3412"[..]);
+    Ok(())
+}
+
+#[test]
+fn a_source_over_a_buffered_file_gives_its_bytes(rt: HostRuntime) -> Result<(), Fail> {
+    for (path, count, bytes) in [("/dev/zero", 3, [0, 0, 0]), ("/dev/null", 0, [7, 7, 7])] {
+        let Ok(file) = File::open(&rt, path) else {
+            panic!(rt; "no such device")
+        };
+        let Ok(reader) = BufReader::new(rt.alloc(), file) else {
+            panic!(rt; "no memory")
+        };
+        let mut source = StdSource::new(reader);
+        let mut buf = [7u8; 3];
+        assert!(rt; source.read(&mut buf) == Ok(count));
+        assert!(rt; buf == bytes);
+    }
+    Ok(())
+}
+
+#[test]
+fn a_sink_over_a_file_without_room_fails(rt: HostRuntime) -> Result<(), Fail> {
+    let Ok(file) = File::create(&rt, "/dev/full") else {
+        panic!(rt; "no such device")
+    };
+    let mut sink = StdSink::new(file);
+    assert!(rt; sink.write(b"34") == Err(Failed));
+    Ok(())
+}
+
+#[test]
+fn a_sink_over_a_buffered_writer_gives_it_the_bytes(rt: HostRuntime) -> Result<(), Fail> {
+    let alloc = rt.alloc();
+    let Ok(writer) = BufWriter::new(alloc, Vec::new(alloc)) else {
+        panic!(rt; "no memory")
+    };
+    let mut sink = StdSink::new(writer);
+    assert!(rt; sink.write(b"34") == Ok(2));
+    assert!(rt; sink.write(b"12") == Ok(2));
+    let Ok(bytes) = sink.into_inner().into_inner() else {
+        panic!(rt; "no memory")
+    };
     assert!(rt; bytes.as_slice() == &b"3412"[..]);
     Ok(())
 }

@@ -5,7 +5,7 @@ use io_edge::OpenGate;
 use std::alloc::Global;
 use std::test::Fail;
 
-// How often the pass stands in the journal.
+// How often the pass is in the journal.
 fn times(pass: u32, journal: &[u32]) -> u32 {
     let mut count: u32 = 0;
     for p in journal {

@@ -21,7 +21,7 @@ struct Meeting {
 }
 
 impl Meeting {
-    /// Waits until the count has come to a number, for so long as a thread may well take to start.
+    /// Waits until the count has reached a number, for as long as a thread may well take to start.
     fn await_count(&self, count: &AtomicU64, least: u64) {
         for _ in 0..10_000_000u32 {
             if count.load(SeqCst) >= least {

@@ -1,4 +1,4 @@
--- The lines of a run tell its journals.
+-- The lines of a run give its journals.
 use Rattle.std.proofs.Common.{◌≡◌, ◌+◌, ◌∙◌, ℕ, List, [], ◌∷◌, ◌++◌, length, refl, sym, ap, subst, arith, append_assoc}
 use Rattle.trace_text.specs.declared.lines.Line.{Line}
 use Rattle.trace_text.specs.declared.lines.Line.TheVariants.{S, J, Z}
@@ -29,7 +29,7 @@ cancel : (xs ys zs : List Line) → xs ++ ys ≡ xs ++ zs → ys ≡ zs
 cancel [] ys zs e = e
 cancel (x ∷ xs) ys zs e = cancel xs ys zs (same-tail x x (xs ++ ys) (xs ++ zs) e)
 
--- a cabinet's journal, and what stands behind its round
+-- a cabinet's journal, and what follows its round
 each-told : (s : ScenarioContent) (first : ℕ) (ts : List CabinetState) (js ks : List (List ℕ)) (xs ys : List Line) → EachMerges s first ts js → EachMerges s first ts ks
     → each_lines s first ts js ++ xs ≡ each_lines s first ts ks ++ ys → (js ≡ ks) × (xs ≡ ys)
 each-told s first [] [] [] xs ys are also e = (refl, e)

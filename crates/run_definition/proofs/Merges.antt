@@ -15,7 +15,7 @@ times-other : (p q n : ℕ) → p ≢ q → times p (replicate n q) ≡ 0
 times-other p q zero other = refl
 times-other p q (suc n) other = grind (arith, times-other p q n other)
 
--- a number below the first does not stand in it
+-- a number below the first isn't in it
 serial-below : (p first : ℕ) (items : List (List Item)) → p < first → times p (serial_from first items) ≡ 0
 serial-below p first [] less = refl
 serial-below p first (one ∷ items) less =

@@ -1,4 +1,4 @@
--- The lines of a run tell the history of each cabinet.
+-- The lines of a run give the history of each cabinet.
 use Rattle.std.proofs.Common.{◌≡◌, ◌+◌, ◌<◌, ◌≤◌, ◌∙◌, ◌==◌, inl, inr, ℕ, true, false, List, [], ◌∷◌, ◌++◌, refl, sym, ap, subst, arith, append_assoc, append-nil}
 use Rattle.std.proofs.lemmas.Bool.{ne_eqb, eq-eqb}
 use Rattle.sig_tables.specs.Past.{History, first_frame}
@@ -46,7 +46,7 @@ tells-on cab lines more t u v a b = record {
       ∙ ap (λ (x : List CabinetTold). cabinet_history_told t.cabinet_history ++ x) (sym (told-append cab lines more));
 }
 
--- lines that tell the same of a cabinet
+-- lines that give the same of a cabinet
 tells-same : (cab : ℕ) (lines others : List Line) (t u : CabinetState) → told_in cab others ≡ told_in cab lines → Tells cab lines t u → Tells cab others t u
 tells-same cab lines others t u e a = record {
   own = a.own;
@@ -67,7 +67,7 @@ each-late s cab first (t ∷ ts) (j ∷ js) low =
     (other-acts cab first t.cabinet_history (round_acts s first t j) (λ e. absurd (omega (arith, low, e))))
     ∙ each-late s cab (first + 1) ts js (omega (arith, low))
 
--- what a cabinet has come to among these, and what lines told of it
+-- what a cabinet has reached among these, and what lines reported of it
 abbrev Found : ℕ → CabinetState → ℕ → List CabinetState → List Line → Type 0
 Found cab t first later lines = (u : CabinetState) × HasComeTo cab u first later × Tells cab lines t u
 
@@ -155,7 +155,7 @@ opening-found s cab first c (d ∷ cabinets) (inr later) =
 abbrev pub drift_in : CabinetContent → Drift
 drift_in c = record { gain = c.gain; lose = c.lose }
 
--- what a cabinet has come to by the end, and that the lines of the run tell it
+-- what a cabinet has reached by the end, and that the lines of the run give it
 pub record Ended (s : ScenarioContent) (journals : List (List (List ℕ))) (cab : ℕ) (c : CabinetContent) : Type 0 where
   pub end : CabinetState
   pub own : end.cabinet ≡ c

@@ -1,4 +1,5 @@
--- What the lines of a cabinet's acts tell of it is what its cabinet history tells of them; the lines of others tell nothing of it.
+-- What the lines of a cabinet's acts say about it is what its cabinet history says of them; the lines of others say
+-- nothing of it.
 use Rattle.std.proofs.Common.{◌≡◌, ◌≢◌, ◌∙◌, ◌==◌, if◌then◌else◌, ℕ, Bool, true, false, List, [], ◌∷◌, ◌++◌, map, Option, Some, None, Result, Ok, Err, refl, ap, append-nil}
 use Rattle.std.proofs.lemmas.Bool.{ne_eqb, eq-eqb}
 use Rattle.sig_types.specs.declared.frame.Frame.{Frame}
@@ -43,7 +44,7 @@ told-append cab (J c runs ∷ lines) more = told-append cab lines more
 told-append cab (A c pass reply ∷ lines) more = told-append cab lines more
 told-append cab (Z rounds ∷ lines) more = told-append cab lines more
 
--- lines that tell nothing of a cabinet, before others and behind them
+-- lines that say nothing of a cabinet, before others and after them
 pub told-behind : (cab : ℕ) (lines more : List Line) → told_in cab lines ≡ [] → told_in cab (lines ++ more) ≡ told_in cab more
 told-behind cab lines more e = told-append cab lines more ∙ ap (λ (x : List CabinetTold). x ++ told_in cab more) e
 

@@ -36,7 +36,8 @@ abbrev pub reply_lines : ℕ → List Reply → List Line
 reply_lines cab [] = []
 reply_lines cab (r ∷ replies) = load_lines cab r.load ++ A cab r.pass r.text ∷ reply_lines cab replies
 
--- the lines of an item that a pass brings after a cabinet history: of a tick its frame's, where that has a line; of a frame of octets its reply's
+-- the lines of an item that a pass brings after a cabinet history: for a tick that of its frame, if it has one; for a
+-- message those of its reply
 abbrev pub item_lines : ℕ → CabinetHistory → ℕ → Item → List Line
 item_lines cab cabinet_history pass item = frame_lines cab (item_written cabinet_history item) ++ reply_lines cab (item_replies cabinet_history pass item)
 
@@ -45,7 +46,7 @@ abbrev pub acts_lines : ℕ → CabinetHistory → List Act → List Line
 acts_lines cab cabinet_history [] = []
 acts_lines cab cabinet_history (act ∷ acts) = item_lines cab cabinet_history act.pass act.item ++ acts_lines cab (with_item cabinet_history act.item) acts
 
--- the lines of a cabinet's round: its journal in longest runs, and those of its acts
+-- the lines of a cabinet's round: its journal in longest runs, and the lines of its acts
 abbrev pub cabinet_lines : ScenarioContent → ℕ → CabinetState → List ℕ → List Line
 cabinet_lines s cab t journal = J cab (runs_of journal) ∷ acts_lines cab t.cabinet_history (round_acts s cab t journal)
 
@@ -78,12 +79,12 @@ abbrev pub opening_lines : ℕ → List CabinetState → List Line
 opening_lines first [] = []
 opening_lines first (t ∷ ts) = shown_line first 0 (last_frame_of (history_of t.cabinet_history)) ∷ opening_lines (first + 1) ts
 
--- the lines of the first rounds of a run, behind its scenario: what each cabinet shows before any tick, and these rounds
+-- the lines of the first rounds of a run, after its scenario: what each cabinet shows before any tick, and these rounds
 abbrev pub front_lines : ScenarioContent → List (List (List ℕ)) → List Line
 front_lines s journals =
     opening_lines 1 (opened_cabinet_states s s.cabinets) ++ rounds_lines s 1 (opened_cabinet_states s s.cabinets) journals
 
--- the lines of a run behind its scenario
+-- the lines of a run after its scenario
 abbrev pub rest_lines : ScenarioContent → List (List (List ℕ)) → List Line
 rest_lines s journals = front_lines s journals ++ Z s.rounds ∷ []
 

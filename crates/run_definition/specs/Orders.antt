@@ -1,5 +1,5 @@
--- Which journals a run may have: those of each round and cabinet take the items of the cabinet's streams in any order, but each stream's
--- own items in theirs. The serial journals take one stream after another.
+-- Which journals a run may have: those of each round and cabinet take the items of the cabinet's streams in any order,
+-- but the items of one stream in their own order. The serial journals take one stream after another.
 use Rattle.std.specs.Prelude.{ℕ, zero, suc, ◌+◌, ◌≡◌, ◌≤◌, List, [], ◌∷◌, ◌++◌, length}
 use Rattle.scenario_data.specs.Content.{ScenarioContent}
 use Rattle.cabinet_history.specs.Journals.{IsMerge, serial}
@@ -11,7 +11,7 @@ EachMerges s first [] [] = Unit {0}
 EachMerges s first (t ∷ ts) (journal ∷ journals) = IsMerge (coming_streams s first t) journal × EachMerges s (first + 1) ts journals
 EachMerges s first _ _ = ⊥
 
--- so do those of round after round
+-- the same holds for the journals of several rounds
 abbrev pub AreMerges : ScenarioContent → List CabinetState → List (List (List ℕ)) → Type 0
 AreMerges s ts [] = Unit {0}
 AreMerges s ts (journals ∷ later) = EachMerges s 1 ts journals × AreMerges s (each_cabinet_state s 1 ts journals) later

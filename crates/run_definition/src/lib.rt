@@ -1,6 +1,6 @@
 //! What a run writes, for any journals: the journal of each round and cabinet says which pass brought the next item,
-//! time after time, and all else follows from the scenario. The laws hold for every order, the serial one among them.
-//! The functions only cite: each represents the laws of its contract.
+//! item by item, and everything else follows from the scenario. The laws hold for every order, including the serial
+//! one. The functions have no bodies: their contracts are the laws.
 #![tactic(auto)]
 
 ghost use Rattle.std.specs.Prelude.{◌≡◌, ◌+◌, ◌++◌, ℕ, List, length};
@@ -17,7 +17,7 @@ use cabinet_laws::{
     cabinet_histories_meet_coordination, downloads_are_whole, downloads_end_as_judged,
 };
 
-/// The smallest run: one cabinet with the standard tables, to which one tick comes, shows all red throughout.
+/// The smallest run: one cabinet with the standard tables and one tick shows all red throughout.
 pub fn smallest_run()
     ensures { run_lines smallest one_tick ≡ smallest_lines }
 {}
@@ -27,12 +27,12 @@ pub fn serial_is_an_order()
     ensures { (s : ScenarioContent) → AreJournals s (serial_journals s) }
 {}
 
-/// In whatever order the items of a run reach its cabinets: if these open with consistent tables and slow drifts, the
-/// lines of each cabinet by themselves show that its street is safe at every tick of 0.1 s and in every mode, with the
-/// tables of each version, and that its versions are whole. These tables are the opening ones with the whole content of
-/// each download that the rules accepted; and the cabinet's history meets what coordination promises (FHWA Signal
-/// Timing Manual: offset, transition), and each frame of a pattern keeps to its plan: a coordinated phase is green
-/// wherever the counter is below its force point.
+/// For every order in which the items of a run reach its cabinets: if these open with consistent tables and slow
+/// drifts, the lines of each cabinet by themselves show that its street is safe at every tick of 0.1 s and in every
+/// mode, with the tables of each version, and that its versions are whole. These tables are the opening ones with the
+/// whole content of each download that the rules accepted; and the cabinet's history meets what coordination promises
+/// (FHWA Signal Timing Manual: offset, transition), and each frame of a pattern keeps to its plan: a coordinated phase
+/// is green wherever the counter is below its force point.
 pub fn any_order_is_safe()
     ensures { (s : ScenarioContent) → AllOpen s.cabinets → (journals : List (List (List ℕ))) → AreJournals s journals
         → AllKept s journals (run_lines s journals) }
@@ -44,8 +44,8 @@ pub fn any_order_is_safe()
     cabinet_histories_keep_to_plan();
 }
 
-/// The lines of fewer rounds begin those of more: later rounds only add theirs. And whatever journals the first rounds had, they are
-/// continued to those of a whole run.
+/// The lines of fewer rounds are the beginning of those of more: later rounds only add theirs. And any journals of the
+/// first rounds can be continued to those of a whole run.
 pub fn rounds_only_add()
     ensures adds { (s : ScenarioContent) (journals : List (List (List ℕ))) (later : List (List (List ℕ)))
         → front_lines s (journals ++ later)
@@ -53,7 +53,7 @@ pub fn rounds_only_add()
     ensures continued { (s : ScenarioContent) (journals : List (List (List ℕ))) → BeginJournals s journals → Continues s journals }
 {}
 
-/// The lines of a run tell its journals: no others write the same.
+/// The lines of a run determine its journals: no other journals give the same lines.
 pub fn journals_are_told()
     ensures { (s : ScenarioContent) (journals : List (List (List ℕ))) (others : List (List (List ℕ)))
         → AreJournals s journals → AreJournals s others → run_lines s journals ≡ run_lines s others → journals ≡ others }

@@ -1,5 +1,5 @@
-//! What every scenario has that was read without a fault: its numbers in range, its tables consistent, its cabinets
-//! numbered from 1. All that a run rests on is here, and nothing of the JSON from which a scenario comes. It has no
+//! What holds for every scenario that was read without a fault: its numbers are in range, its tables are consistent,
+//! its cabinets are numbered from 1. A run needs nothing else of a scenario, and nothing of its JSON. The crate has no
 //! code.
 #![tactic(auto)]
 

@@ -19,7 +19,7 @@ use Rattle.safety_laws.specs.Safe.{Intersection, intersection_of, colour_at, sig
 use Rattle.safety_laws.specs.Safe.{PhaseFollows, Interval, Lasts, Safe}
 use Rattle.safety_laws.specs.Rows.{IsRefusedWith, preempted, cut_flash}
 
--- of sixteen the second alone differs from the first
+-- of sixteen only the second differs from the first
 second-alone : {A : Type 0} (x y d : A) (p : ℕ) → is_phase p ≡ true → p ≢ 2 → get_or (x ∷ y ∷ replicate 14 x) (p - 1) d ≡ x
 second-alone x y d zero ph ne = absurd (false≢true ph)
 second-alone x y d (suc zero) ph ne = refl
@@ -223,7 +223,7 @@ cut-safe = record {
       (inr (second-green tables tick)) (λ q qh ne. inl (other-dont tables q tick qh ne)) p ph;
 }
 
--- where the preempt serves phase 2 itself, the whole clearance is due
+-- where the preempt serves phase 2 itself, the whole clearance is expected
 pub served_cut-refused : IsRefusedWith (preempted (pair 2 6)) cut_flash
 unfolding max8 standard preempted
 served_cut-refused safe =

@@ -56,7 +56,7 @@ module _ (tables : ℕ → Tables) (look : Frame → Bool) where
   head-look : (m : Moment) (past all : List Moment) (b : Bool) → all ≡ m ∷ past → look (last_frame all) ≡ b → look m.frame ≡ b
   head-look m past all b e h = subst (λ (x : List Moment). look (last_frame x) ≡ b) e h
 
-  -- the run that begins at tick `first` and goes on for j ticks more
+  -- the run that begins at tick `first` and continues for j ticks more
   pub ran : (moments : List Moment) (first j : ℕ) → first + j < length moments
       → ((tick : ℕ) → HasTables tables (so_far tick moments))
       → ((tick : ℕ) → first ≤ tick → tick ≤ first + j → look (last_frame (so_far tick moments)) ≡ true)

@@ -1,4 +1,4 @@
--- What lines tell, one after another.
+-- What lines say, one after another.
 use Rattle.std.proofs.Common.{◌≡◌, ◌+◌, ◌==◌, ℕ, Bool, true, false, if◌then◌else◌, List, [], ◌∷◌, ◌++◌, Ok, Err, refl, sym, ap, arith}
 use Rattle.std.proofs.lemmas.Bool.{eq-eqb}
 use Rattle.sig_types.specs.declared.frame.Colour.{Colour}

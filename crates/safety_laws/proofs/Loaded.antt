@@ -15,13 +15,13 @@ use Rattle.safety_laws.specs.Whole.{downloads, Whole}
 use Rattle.safety_laws.specs.Written.{shown_by}
 use Rattle.safety_laws.specs.CabinetTold.{CabinetTold, Shows, Loads, told_in, frame_told, told_of, history_told}
 
--- the downloads alone, counted
+-- only the downloads, counted
 abbrev loads : List CabinetTold → ℕ
 loads [] = 0
 loads (Shows tick shown ∷ rest) = loads rest
 loads (Loads version ∷ rest) = loads rest + 1
 
--- after so many downloads each frame has the number of those before it, and each download its own
+-- after that many downloads each frame has the number of those before it, and each download its own
 abbrev Counts : ℕ → List CabinetTold → Type 0
 Counts n [] = Unit {0}
 Counts n (Shows tick shown ∷ rest) = (shown.version ≡ n) × Counts n rest
@@ -136,7 +136,7 @@ lines-loads cab (J c runs ∷ lines) = lines-loads cab lines
 lines-loads cab (A c pass reply ∷ lines) = lines-loads cab lines
 lines-loads cab (Z rounds ∷ lines) = lines-loads cab lines
 
--- what the lines from one on tell, counted by the lines before it
+-- what the lines from one on say, counted by the lines before it
 from-line : (cab : ℕ) (lines before rest : List Line) → Counts 0 (told_in cab lines) → lines ≡ before ++ rest → Counts (downloads cab before) (told_in cab rest)
 from-line cab lines before rest h e =
     counts-from (0 + loads (told_in cab before)) (downloads cab before) (told_in cab rest)

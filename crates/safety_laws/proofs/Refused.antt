@@ -15,7 +15,7 @@ use Rattle.safety_laws.specs.Rows.{IsRefused, IsRefusedWith, line_in, second_lin
 use Rattle.safety_laws.specs.Rows.{long_yellow, no_clear, short_clear, long_clear, short_green, short_walk, long_walk, no_flash, short_flash, long_flash}
 use Rattle.safety_laws.specs.Rows.{walk_on_red, slow_yellow, newest_yellow, preempted, short_green_on_entry, short_yellow_on_entry, short_walk_on_entry, short_flash_on_entry}
 
--- the first of two lines stands until the second
+-- the first of two lines holds until the second
 module _ (tables : ℕ → Tables) (mode : Mode) (colour next : Colour) (signal later : Ped) (end : ℕ) where
   abbrev two_lines : Intersection
   two_lines = intersection_of 1 tables (second_line 0 colour signal ∷ line_in mode 0 end next later ∷ [])

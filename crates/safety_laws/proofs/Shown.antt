@@ -15,7 +15,7 @@ use Rattle.safety_laws.proofs.Versions.{versions}
 use Rattle.safety_laws.proofs.History.{history-safe}
 use Rattle.safety_laws.specs.CabinetTold.{CabinetTold, Shows, Loads, told_in, frame_told, told_of, history_told}
 
--- the frames alone
+-- only the frames
 abbrev shown_in : List CabinetTold → List (ℕ × Indications)
 shown_in [] = []
 shown_in (Shows tick shown ∷ rest) = (tick, shown) ∷ shown_in rest
@@ -83,7 +83,7 @@ events-shown has_line opening (Install t ∷ events) =
     ∙ append-none (shown_in (told_of has_line opening events)) ∙ events-shown has_line opening events
 events-shown has_line opening (_ ∷ events) = events-shown has_line opening events
 
--- those that lines tell, where they tell the history
+-- those that lines say, where they give the history
 pub lines-show : (cab : ℕ) (lines : List Line) (h : History) (has_line : Frame → Frame → Bool) → told_in cab lines ≡ history_told has_line h
     → told cab lines ≡ written has_line (frames h)
 lines-show cab lines h has_line e = sym (lines-shown cab lines) ∙ ap shown_in e ∙ events-shown has_line h.tables (since_opening h)

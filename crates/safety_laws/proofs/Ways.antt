@@ -1,4 +1,4 @@
--- What is due of the times of a phase that makes way for a preempt is what the rules of a tick leave of them.
+-- What is expected of the times of a phase that makes way for a preempt is what the rules of a tick leave of them.
 use Rattle.std.proofs.Common.{◌≡◌, ◌≤◌, ◌*◌, ℕ, zero, suc, Bool, true, false, if◌then◌else◌, List, Option, Some, None, refl, arith}
 use Rattle.std.proofs.lemmas.Bool.{false≢true}
 use Rattle.sig_types.specs.declared.frame.Mode.{Mode}
@@ -73,7 +73,7 @@ green-is t Ending p time n ph = in-time (is_in (goal_in t Ending) p) time
 green-is t Flash p time n ph = in-time (is_in (goal_in t Flash) p) time
 green-is t (Exit i) p time n ph = in-time (is_in (goal_in t (Exit i)) p) time
 
--- what lasted so lasted what was due
+-- what lasted so lasted what was expected
 pub walk-lasted : (o : Option Preempt) (time ran : ℕ) → WalkLasted (lesser_for o) time ran → walk_due o time ≤ ran
 walk-lasted None time ran h = omega (arith, h)
 walk-lasted (Some preempt) time ran h = h

@@ -1,5 +1,5 @@
--- What the lines of a history tell with its downloads: the frame before any tick, each later frame that has a line, and between
--- them each download with the number of its tables.
+-- What the lines of a history say, with its downloads: the frame before any tick, each later frame that has a line, and
+-- between them each download with the number of its tables.
 use Rattle.std.specs.Prelude.{ℕ, ◌+◌, ◌==◌, Bool, if◌then◌else◌, List, [], ◌∷◌, ◌++◌, length, Ok}
 use Rattle.sig_types.specs.declared.frame.Frame.{Frame}
 use Rattle.sig_tables.specs.declared.tables.Tables.{Tables}
@@ -16,7 +16,8 @@ pub data CabinetTold : Type 0 where
   Shows : (tick : ℕ) (shown : Indications) → CabinetTold
   Loads : (version : ℕ) → CabinetTold
 
--- what the lines of a cabinet tell, in the order written; a refused download tells nothing, nor do lines of other kinds
+-- what the lines of a cabinet say, in the order in which they are written; a refused download says nothing, and neither
+-- do lines of other kinds
 abbrev pub told_in : ℕ → List Line → List CabinetTold
 told_in cab [] = []
 told_in cab (F c tick veh ped mode counter target version ∷ lines) =
@@ -31,7 +32,7 @@ frame_told has_line past =
     if has_line (last_frame past.moments) (next_moment past).frame
     then Shows (length (frames_in past.moments)) (shown_by (next_moment past).frame) ∷ [] else []
 
--- what is to be told of these events, by a rule for which frames have a line
+-- what is to be reported of these events, by a rule that says which frames have a line
 abbrev pub told_of : (Frame → Frame → Bool) → Tables → List Event → List CabinetTold
 told_of has_line opening [] = Shows 0 (shown_by first_frame) ∷ []
 told_of has_line opening (Tick ∷ events) = told_of has_line opening events ++ frame_told has_line (past_of opening events)
@@ -39,6 +40,6 @@ told_of has_line opening (Install t ∷ events) =
     told_of has_line opening events ++ Loads ((past_of opening events).version + 1) ∷ []
 told_of has_line opening (_ ∷ events) = told_of has_line opening events
 
--- what is to be told of a history
+-- what is to be reported of a history
 abbrev pub history_told : (Frame → Frame → Bool) → History → List CabinetTold
 history_told has_line h = told_of has_line h.tables (since_opening h)

@@ -39,7 +39,7 @@ second_line tick colour signal = line_in Free 0 tick colour signal
 abbrev pub conflict : List Line
 conflict = first_line 0 (Green ∷ Green ∷ Red ∷ Red ∷ []) (replicate 4 Dont) ∷ []
 
--- phases 2 and 4 of two streets have Walk together, each on its Green: walks in conflict stand on colours in conflict
+-- phases 2 and 4 of two streets have Walk together, each on its Green: walks in conflict are on colours in conflict
 abbrev pub two_walks : List Line
 two_walks = first_line 0 (Red ∷ Green ∷ Red ∷ Green ∷ []) (Dont ∷ Walk ∷ Dont ∷ Walk ∷ []) ∷ []
 
@@ -104,7 +104,7 @@ unfoldable pub slow_yellow : ℕ → Tables
 slow_yellow version =
     if version == 0 then max8 else record max8 { phases = set max8.phases 1 (record (row max8 2) { yellow_change = 50 }) }
 
--- a Yellow that began with 40 ticks is drawn out to the 50 of tables that came while it lasted
+-- a Yellow that began with 40 ticks is lengthened to the 50 of tables that came while it lasted
 abbrev pub newest_yellow : List Line
 newest_yellow = second_line 0 Yellow Dont ∷ line_in Free 1 10 Yellow Dont ∷ line_in Free 1 50 Clear Dont ∷ []
 

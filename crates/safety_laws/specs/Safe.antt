@@ -1,4 +1,4 @@
--- What it is for the street of a trace to be safe: read from the frame lines of a cabinet and its tables alone.
+-- What it means that the street of a trace is safe. It uses only the frame lines of a cabinet and its tables.
 use Rattle.std.specs.Prelude.{ℕ, ◌+◌, ◌-◌, ◌*◌, ◌==◌, ◌<◌, ◌≤◌, ◌≡◌, ◌≢◌, ◌⊎◌, max, min, nat_le, true, false, if◌then◌else◌, List, [], ◌∷◌, replicate}
 use Rattle.std.specs.Prelude.{get_or, Option, Some, None}
 use Rattle.sig_types.specs.declared.frame.Colour.{Colour}
@@ -17,7 +17,7 @@ use Rattle.sig_tables.specs.Preempts.{entry_set, dwell_set}
 use Rattle.trace_text.specs.declared.lines.Line.{Line}
 use Rattle.trace_text.specs.declared.lines.Line.TheVariants.{F}
 
--- what a cabinet shows at a tick, by phase; the mode of the tick, and the number of the tables that are in force
+-- what a cabinet shows at a tick, for each phase; the mode of the tick, and the number of the tables that are in force
 pub record Indications : Type 0 where
   pub colours : List Colour
   pub signals : List Ped
@@ -28,14 +28,14 @@ pub record Indications : Type 0 where
 abbrev pub dark : Indications
 dark = record { colours = replicate 16 Red; signals = replicate 16 Dont; mode = Start; version = 0 }
 
--- what the frame lines of a cabinet tell, in the order written: a tick, and what is shown at it
+-- what the frame lines of a cabinet say, in the order in which they are written: a tick, and what is shown at it
 abbrev pub told : ℕ → List Line → List (ℕ × Indications)
 told cab [] = []
 told cab (F c tick veh ped mode counter target version ∷ lines) =
     if c == cab then (tick, record { colours = veh; signals = ped; mode = mode; version = version }) ∷ told cab lines else told cab lines
 told cab (_ ∷ lines) = told cab lines
 
--- what the last of them at or before a tick tells; where there is none, what was shown before
+-- what the last of them at or before a tick says; if there is none, what was shown before
 abbrev pub shown_at : ℕ → Indications → List (ℕ × Indications) → Indications
 shown_at tick before [] = before
 shown_at tick before (line ∷ lines) = shown_at tick (if nat_le line.0 tick then line.1 else before) lines
@@ -45,7 +45,8 @@ pub record Intersection : Type 0 where
   pub tables : ℕ → Tables
   pub shown : ℕ → Indications
 
--- a cabinet of a trace: between two of its frame lines what the first tells stands, and before the first it is dark
+-- a cabinet of a trace: between two of its frame lines it shows what the first of them says, and before its first line
+-- it is dark
 abbrev pub intersection_of : ℕ → (ℕ → Tables) → List Line → Intersection
 intersection_of cab tables lines = record { tables = tables; shown = λ tick. shown_at tick dark (told cab lines) }
 
@@ -72,14 +73,16 @@ pub record Apart (s : Intersection) (tick : ℕ) : Type 0 where
   pub disabled : (p : ℕ) → is_phase p ≡ true → is_enabled (in_force s tick) p ≡ false
       → (colour_at s p tick ≡ Red) × (signal_at s p tick ≡ Dont)
 
--- the preempt that phase p makes way for in this mode: where one is served, and p is not of the phases that it serves
+-- the preempt that phase p makes way for in this mode: one that is served, while p isn't one of the phases that it
+-- serves
 abbrev pub makes_way_for : Tables → Mode → ℕ → Option Preempt
 makes_way_for t (Entry i) p = if is_in (entry_set t i) p then None else Some (preempt_of t i)
 makes_way_for t (Track i) p = if is_in (entry_set t i) p then None else Some (preempt_of t i)
 makes_way_for t (Dwell i) p = if is_in (dwell_set t i) p then None else Some (preempt_of t i)
 makes_way_for t mode p = None
 
--- of the time of a green, a walk or a pedestrian clearance so much is due at least: all of it, or what the preempt leaves of it
+-- the minimum that is expected of a green, a walk or a pedestrian clearance with this time: all of it, or what the
+-- preempt leaves of it
 abbrev pub green_due : Option Preempt → ℕ → ℕ
 green_due None time = time
 green_due (Some preempt) time = max 1 (min time (10 * preempt.minimum_green))
@@ -92,20 +95,20 @@ abbrev pub clearance_due : Option Preempt → ℕ → ℕ
 clearance_due None time = time
 clearance_due (Some preempt) time = min time (10 * preempt.enter_pedestrian_clear)
 
--- the colour that follows another: red clearance is left out where its time is 0
+-- the colour that follows another: red clearance is left out if its time is 0
 abbrev pub next_colour : Tables → ℕ → Colour → Colour
 next_colour t p Green = Yellow
 next_colour t p Yellow = if red_clear_time t p == 0 then Red else Clear
 next_colour t p Clear = Red
 next_colour t p Red = Green
 
--- the signal that follows another in this mode: pedestrian clearance is left out where none of it is due
+-- the signal that follows another in this mode: pedestrian clearance is left out if none of it is expected
 abbrev pub next_signal : Tables → Mode → ℕ → Ped → Ped
 next_signal t mode p Dont = Walk
 next_signal t mode p Walk = if clearance_due (makes_way_for t mode p) (pedestrian_clear_time t p) == 0 then Dont else Flash
 next_signal t mode p Flash = Dont
 
--- where the colour or the signal of phase p changes at the tick after this one, the new one is the one that follows
+-- if the colour or the signal of phase p changes at the tick after this one, the new one is the one that follows
 pub record PhaseFollows (s : Intersection) (p tick : ℕ) : Type 0 where
   pub colour : colour_at s p (tick + 1) ≢ colour_at s p tick
       → colour_at s p (tick + 1) ≡ next_colour (in_force s (tick + 1)) p (colour_at s p tick)
@@ -123,9 +126,10 @@ pub record Interval (holds : ℕ → Type 0) (first end : ℕ) : Type 0 where
 abbrev pub way_at : Intersection → ℕ → ℕ → Option Preempt
 way_at s p tick = makes_way_for (in_force s tick) (mode_at s tick) p
 
--- each Yellow and each Clear of phase p that has ended lasted exactly its time, by the tables at its first tick; each Green
--- lasted at least what was due of its least green as it ended; each Walk and each Flash at most its time, and at least what
--- was due of it as it ended: so exactly its time where p does not make way for a preempt
+-- each Yellow and each Clear of phase p that has ended lasted exactly its time, by the tables at its first tick; each
+-- Green lasted at least what was expected of its minimum green when it ended; each Walk and each Flash lasted at most
+-- its time, and at least what was expected of it when it ended: so exactly its time if p does not make way for a
+-- preempt
 pub record Lasts (s : Intersection) (p first end : ℕ) : Type 0 where
   pub yellow : Interval (λ tick. colour_at s p tick ≡ Yellow) first end → end ≡ first + yellow_time (in_force s first) p
   pub clear : Interval (λ tick. colour_at s p tick ≡ Clear) first end → end ≡ first + red_clear_time (in_force s first) p

@@ -1,5 +1,5 @@
-//! A trace is safe: what its F lines by themselves show of a cabinet's street, at every tick of 0.1 s. The definitions
-//! know nothing of histories or of the rules of a tick; the laws tie them to every history, and to every history whose
+//! What it means that a trace is safe: the street that its F lines show, at every tick of 0.1 s. The definitions don't
+//! use histories or the rules of a tick; the laws say that they hold for every history, and for every history whose
 //! tables keep the rules. What may be shown together, in which order and how long follows NEMA TS 2 and the FHWA Signal
 //! Timing Manual.
 #![tactic(auto)]
@@ -22,10 +22,11 @@ ghost use Rattle.safety_laws.specs.Rows.{slow_yellow, newest_yellow, preempted, 
 
 pub use safe_streets::admitted_streets_are_safe;
 
-/// The street of a trace is safe, in every mode: whatever the inputs, commands, preempts, priority requests and downloads of a
-/// cabinet's history, whichever rule chooses the frames that have a line, as long as one without a line shows what the one before it
-/// showed, and whatever other lines stand between. The tables opened with and those of each download are sound; each download keeps the
-/// layout of the tables before it, but for one that comes while nothing is on.
+/// The street of a trace is safe in every mode: for all inputs, commands, preempts, priority requests and downloads of
+/// a cabinet's history; for every rule that chooses the frames that have a line, provided that a frame without a line
+/// shows what the one before it showed; and with any other lines in between. The opening tables and those of each
+/// download must be sound, and each download must keep the layout of the tables before it, unless it arrives while
+/// nothing is on.
 pub fn trace_is_safe()
     ensures { (h : History) (has_line : Frame → Frame → Bool) (cab : ℕ) (lines : List Line)
         → Lawful h.tables (since_opening h)
@@ -43,9 +44,10 @@ pub fn undisturbed_is_whole()
         → Whole cab lines }
 {}
 
-/// What the definition refuses on the table max8: a conflict of colours or of walks; a disabled phase that is lit; a yellow or a red
-/// clearance left out, cut short or drawn out; a green cut short; a walk or a pedestrian clearance cut short or drawn out, a pedestrian
-/// clearance left out; and walk beside red. A yellow keeps the time of its first tick, whatever tables come while it lasts.
+/// What the definition refuses on the table max8: a conflict of colours or of walks; a disabled phase that is lit; a
+/// yellow or a red clearance left out, cut short or lengthened; a green cut short; a walk or a pedestrian clearance cut
+/// short or lengthened; a pedestrian clearance left out; and walk together with red. A yellow keeps the time of its
+/// first tick, even if new tables arrive while it lasts.
 pub fn unsafe_traces_are_refused()
     ensures conflict { IsRefused conflict }
     ensures two_walks { IsRefused two_walks }
@@ -66,8 +68,8 @@ pub fn unsafe_traces_are_refused()
     ensures newest_yellow { IsRefusedWith slow_yellow newest_yellow }
 {}
 
-/// A preempt may cut short the green, the walk and the pedestrian clearance of a phase that makes way for it, to what
-/// it leaves of them and no further; those of a phase that it serves must last in full, and so must every yellow.
+/// A preempt may cut short the green, the walk and the pedestrian clearance of a phase that makes way for it, but only
+/// to the preempt's own times. Those of a phase that it serves must last in full, and so must every yellow.
 pub fn preempts_cut_short()
     ensures allowed { Safe (intersection_of 1 (preempted (pair 4 8)) cut_flash) }
     ensures green { IsRefusedWith (preempted (pair 4 8)) short_green_on_entry }

@@ -41,7 +41,7 @@ pub inner_broken : (cabinet rule row : ℕ) (causes : List Cause)
     → Names (BrokenRefusal cabinet rule row) (first_cause causes) → Names (BrokenRefusal cabinet rule row) (first_cause (map inner_cause causes))
 inner_broken cabinet rule row causes h = first-mapped causes (Broken cabinet rule row) h
 
--- where a scenario stands in the object, its faults are those of the field, and it is what is held there
+-- where a scenario is in the object, its faults are those of the field, and it is what is held there
 pub scenario-clean : (d v : Data) → Some v ≡ get (codes "scenario") d → faults v ≡ [] → field_faults [] d scenario ≡ []
 scenario-clean d v e none =
     ap (λ (o : Option Data). faults_of inner_scenario (then_named [] (codes "scenario")) (either o None)) (sym e) ∙ ap (map inner_cause) none

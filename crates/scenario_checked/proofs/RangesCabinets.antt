@@ -96,7 +96,7 @@ pub all-puts : (version : ℕ) (path : List Step) (ds : Items) → each (cabinet
     → AllByRecursion (λ c. PutOctets c.cells) (each_of (cabinet_of version) ds)
 all-puts version path ds e = each-holds (cabinet version) (cabinet_of version) (λ c. PutOctets c.cells) (cabinet-puts version) path 0 ds e
 
--- the field of an input, by which of its names stand there
+-- the field of an input, by which of its names are there
 abbrev field_if : Bool → Bool → Data → Street
 field_if is_veh is_ped d =
     if is_veh then Veh (whole_of (held veh d)) (flag_of (held on d)) else
@@ -108,7 +108,7 @@ is-phase p low high =
     let b : nat_le p 16 ≡ true = le-leb p 16 high in
     rw (a, b) refl
 
--- of the three the ones that stand there
+-- of the three the ones that are there
 abbrev last_standing : Bool → List (List Field)
 last_standing c = if c then (preempt ∷ on ∷ []) ∷ [] else []
 

@@ -101,7 +101,7 @@ all-last : (n x : ℕ) (xs : List ℕ) → AllUpTo n xs → (1 ≤ x) × (x ≤ 
 all-last n x [] all last = (last, tt)
 all-last n x (y ∷ xs) all last = (all.0, all-last n x xs all.1 last)
 
--- numbers of which each stands at most a hundred times
+-- numbers of which each is at most a hundred times
 record AreFew (n : ℕ) (xs : List ℕ) : Type 0 where
   upto : AllUpTo n xs
   few : (c : ℕ) → count_of c xs ≤ 100

@@ -50,7 +50,7 @@ request-in path d own =
       departure = omega (arith, s);
     }
 
--- of the two the ones that stand there
+-- of the two the ones that are there
 abbrev both_standing : Bool → Bool → List (List Field)
 both_standing a b = if a then (cancel ∷ []) ∷ (if b then request_fields ∷ [] else []) else if b then request_fields ∷ [] else []
 

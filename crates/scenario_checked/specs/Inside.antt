@@ -5,7 +5,7 @@ use Rattle.scenario_read.specs.Kinds.{Kind}
 use Rattle.scenario_read.specs.Fields.{Field, needed}
 use Rattle.scenario_read.specs.Faults.{faults}
 
--- where a fault of the scenario stands in the object
+-- where a fault of the scenario is in the object
 abbrev pub inner_path : List ℕ → List ℕ
 inner_path path = if bytes_eq path (codes ".") then codes "scenario" else codes "scenario." ++ path
 

@@ -1,4 +1,5 @@
-//! A scenario inside an object, at its name `scenario`: a fault of it is a fault of the object, with its path behind `scenario.`.
+//! A scenario inside an object, at its name `scenario`: a fault of it is a fault of the object, with its path after
+//! `scenario.`.
 ghost use Rattle.std.specs.Prelude.{◌≡◌, ◌++◌, if◌then◌else◌, List, ℕ, IfOk, string_bytes, bytes_eq, codes, map};
 ghost use Rattle.scenario_data.specs.Causes.{Cause, Names};
 ghost use Rattle.scenario_read.specs.Readers.{Refuses};
@@ -8,7 +9,7 @@ ghost use Rattle.scenario_checked.specs.Inside.{inner_path, inner_cause};
 use scenario_data::{ReadFail, Refusal};
 use std::alloc::{AllocError, Global};
 
-/// Where a fault of the scenario stands in the object.
+/// Where a fault of the scenario is in the object.
 fn inner_path(alloc: Global, path: &String) -> Result<String, AllocError>
     ensures { IfOk result (λ inner. string_bytes inner ≡ inner_path (string_bytes path.now)) }
 {

@@ -1,5 +1,5 @@
-//! Every scenario that is read without a fault can be run; and a scenario that stands inside another object, as a field file or a
-//! file of bands has it. Both need the reading, with its JSON, and what a run asks of a scenario.
+//! Every scenario that is read without a fault can be run, also one inside another object, as in a field file or a band
+//! file. The proofs need both the reading of JSON and what a run requires of a scenario.
 #![tactic(auto)]
 
 mod inside;

@@ -1,4 +1,4 @@
--- Where only a number, a text or a word may stand, an array or an object says as much as null.
+-- Where only a number, a text or a word may be, an array or an object says as much as null.
 use Rattle.std.proofs.Common.{◌≡◌, ◌≤◌, ◌<◌, ℕ, zero, suc, ◌+◌, ◌==◌, ◌&&◌, nat_le, Bool, true, false, if◌then◌else◌, List, Option, Some, None, option_map, option_and_then, unwrap_or, refl, sym, ap, ◌∙◌, arith}
 use Rattle.std.proofs.lemmas.Bool.{leb-true, leb-false, ne_eqb}
 use Rattle.serde_json.specs.Data.{Data, null, boolean, number, string, array, object, Items, no_items, item, Members}
@@ -25,12 +25,12 @@ bare-says says arrays objects (object ms) = sym (objects ms)
 
 -- ---- a cell
 
--- what becomes of each item
+-- what results from each item
 abbrev pub each_item : (Data → Data) → Items → Items
 each_item g no_items = no_items
 each_item g (item d ds) = item (g d) (each_item g ds)
 
--- a cell asks of what becomes of an item what it asks of the item
+-- a cell asks of what results from an item what it asks of the item
 pub record AsksAlike (g : Data → Data) : Type 0 where
   pub octet : (d : Data) → octet_of (g d) ≡ octet_of d
   pub word : (d : Data) → as_str (g d) ≡ as_str d
@@ -65,7 +65,7 @@ value-low (UnitCell n) = omega arith
 apart : (k n : ℕ) → n < k → (k == n) ≡ false
 apart k n more = ne_eqb k n (λ e. omega (arith, more, e))
 
--- a longer list is no cell
+-- a longer list is not a cell
 pub long-wrong : (ds : Items) → 5 < items_len ds → cell_fits (array ds) ≡ Wrong
 long-wrong ds long = listed (listed_cell (array ds))
   where

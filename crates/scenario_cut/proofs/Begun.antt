@@ -1,4 +1,4 @@
--- A value begins with its first token, and this tells of it.
+-- A value begins with its first token, and this says about it.
 use Rattle.std.proofs.Common.{◌≡◌, ℕ, List, ◌∷◌, Option, Some, None, option_map, IfSome, refl, sym, ap, ◌∙◌, subst}
 use Rattle.std.specs.Borrow.{Bor}
 use Rattle.json.specs.Token as spec
@@ -46,7 +46,7 @@ begins-with : (token : Token) (depth : ℕ) (rest after : List spec.Token) (d : 
 begins-with token depth rest after d read =
     subst (Begun token) (ap (converted of_json) (sym (value_is depth (token_of token ∷ rest))) ∙ read) (begun token _ _ rest)
 
--- a value of this token and what follows, and what the token tells of it
+-- a value of this token and what follows, and what the token says about it
 pub begun-value : (token : Token) (depth : ℕ) (rest after : List spec.Token) (d : Data)
     → converted of_json (value depth (token_of token ∷ rest)) ≡ Some (d, after)
     → (e : Data) × (converted of_json (value depth (token_of token ∷ rest)) ≡ Some (e, after)) × BeginsWith token e

@@ -26,7 +26,7 @@ use Rattle.scenario_cut.proofs.Kept.{whole-same, text-same, bare-number, master-
 use Rattle.scenario_cut.proofs.Judging.{no-first, refuses-same}
 use Rattle.scenario_cut.proofs.Verdicts.{tells-same}
 
--- ---- what is kept beside the lists
+-- ---- what is kept in addition to the lists
 
 is-setup : IsObject Setup
 is-setup = record { opens = refl; closed = refl }
@@ -113,7 +113,7 @@ both-clean h d v is clean numbers behind =
     let all : head_faults d ++ behind_faults (head_of d) d d ≡ [] = ap₂ (λ (xs ys : List Cause). xs ++ ys) (head-clean d v is clean) here in
     (no-first (faults d) (sym (split d) ∙ ap first_cause all), ap (λ k. extent_at k d) known)
 
--- ---- the first fault of a list behind others without any
+-- ---- the first fault of a list after others without any
 
 pub second : (fail : ReadFail) (a b x : List Cause) → a ≡ [] → Refuses fail b → Refuses fail (a ++ (b ++ x))
 second fail a b x p h = rw p (refuses_more fail b x h)
@@ -130,7 +130,7 @@ fifth fail a b c e f p q r s h = rw (p, q, r, s) h
 pub none-of-five : (a b c e f : List Cause) → a ≡ [] → b ≡ [] → c ≡ [] → e ≡ [] → f ≡ [] → a ++ (b ++ (c ++ (e ++ f))) ≡ []
 none-of-five a b c e f p q r s t = rw (p, q, r, s, t) refl
 
--- ---- a list that doesn't stand
+-- ---- a list that isn't
 
 no-some : (o : Option Data) → is_some o ≡ false → o ≡ None
 no-some None e = refl
@@ -145,7 +145,7 @@ listed Priority = refl
 listed Frames = refl
 listed Faults = refl
 
--- what is known of no members is known of a scenario in which the list doesn't stand
+-- what is known of no members is known of a scenario in which the list isn't
 pub absent-in : (l : Listing) (e : Extent) (told : ListVerdict) (d v : Data) → v ≡ cut Setup d → is_some (get (name_of l) v) ≡ false → TellsIn l e told (object no_members) → TellsIn l e told d
 absent-in l e told d v is absent h =
     let none : get (name_of l) d ≡ None = no-some (get (name_of l) d) (sym (some-cut Setup is-setup (name_of l) (listed l) d) ∙ ap (λ w. is_some (get (name_of l) w)) (sym is) ∙ absent) in

@@ -1,5 +1,5 @@
--- A value without faults is kept whole: an array or an object stands only where one may stand, each list has room for its items, and what
--- stands for another thing than itself is at fault.
+-- A value without faults is kept whole: an array or an object is only where one may be, each list has room for its
+-- items, and what represents a different thing from itself is at fault.
 use Rattle.std.proofs.Common.{◌≡◌, ◌≤◌, ℕ, zero, suc, ◌+◌, ◌==◌, ◌&&◌, nat_le, Bool, true, false, if◌then◌else◌, List, [], ◌∷◌, ◌++◌, codes, refl, ap, ap₂, ◌∙◌, subst, arith}
 use Rattle.std.proofs.lemmas.Bool.{and_parts}
 use Rattle.serde_json.specs.Data.{Data, null, boolean, number, string, array, object, Items, no_items, item, Members, no_members, member}
@@ -28,11 +28,11 @@ use Rattle.scenario_cut.proofs.Kept.{le-of, is-cabinet, covers-cabinet, is-event
 abbrev pub Entire : Form → Kind → Type 0
 Entire f kind = (path : List Step) (d : Data) → Sorted d → kind path d ≡ [] → cut f d ≡ d
 
--- what else may be at fault behind a kind's own faults
+-- what else may be at fault after a kind's own faults
 more-entire : (f : Form) (kind : Kind) (more : List Step → Data → List Cause) → Entire f kind → Entire f (λ path d. kind path d ++ more path d)
 more-entire f kind more good path d sorted e = good path d sorted (none-left (kind path d) (more path d) e).0
 
--- ---- a place where only a number, a text or a word may stand
+-- ---- a place where only a number, a text or a word may be
 
 wrong : (path : List Step) (fit : Fit) → fit ≡ Wrong → fault_at path fit ≡ [] → ⊥
 wrong path Fits is e = cc
@@ -77,7 +77,7 @@ cell-entire path (object ms) sorted e = absurd (cc)
 
 -- ---- lists
 
--- behind an item without faults there is room for any number
+-- after an item without faults there is room for any number
 abbrev pub Roomy : Form → Kind → Type 0
 Roomy f kind = (path : List Step) (n : ℕ) (d : Data) → kind path d ≡ [] → room_behind f n d ≡ suc n
 
@@ -88,7 +88,7 @@ each-entire f kind good room path n p (item d ds) sorted e =
     let parts = none-left (kind here d) (each kind path (p + 1) ds) e in
     ap₂ item (good here d sorted.0 parts.0) (ap (λ m. cut_items f m ds) (room here n d parts.0) ∙ each-entire f kind good room path n (p + 1) ds sorted.1 parts.1)
 
--- a list of so many items at the most
+-- a list of that many items at the most
 pub counted-entire : (f : Form) (kind : Kind) → Entire f kind → ((n : ℕ) (d : Data) → room_behind f n d ≡ n) → (path : List Step) (n p : ℕ) (ds : Items) → ItemsSorted ds → items_len ds ≤ n → each kind path p ds ≡ [] → cut_items f n ds ≡ ds
 counted-entire f kind good counts path n p no_items sorted few e = refl
 counted-entire f kind good counts path zero p (item d ds) sorted few e = absurd (omega (arith, few))
@@ -158,7 +158,7 @@ module _ {A : Type 0} (kind : List A → Kind) (says : Data → A) (good : (earl
 
 -- ---- objects
 
--- what stands at a name is kept whole
+-- what is at a name is kept whole
 abbrev pub KeptAt : Form → List ℕ → Data → Type 0
 KeptAt f name d = cut (member_form f name) d ≡ d
 

@@ -1,4 +1,5 @@
--- Of the names that an object may not have only the first is kept: what stands at the others stays, and so does the first name at fault.
+-- Of the names that an object may not have only the first is kept: what is at the others stays, and so does the first
+-- name at fault.
 use Rattle.std.proofs.Common.{◌≡◌, ℕ, Bool, true, false, ◌&&◌, ◌||◌, if◌then◌else◌, List, [], ◌∷◌, ◌++◌, filter, Some, unwrap_or, Ordering, Less, Equal, Greater, nat_cmp, bytes_eq, is_eq, refl, sym, ap, ◌∙◌, subst}
 use Rattle.std.proofs.lemmas.Bool.{and_parts, and_from}
 use Rattle.std.proofs.lemmas.Map.Text.{is_eq-slice_cmp}
@@ -82,7 +83,7 @@ module _ (known : List (List ℕ)) where
       at true is = sym (in-names fields all name is) ∙ none
       at false is = refl
 
-  -- ---- what stands at a known name
+  -- ---- what is at a known name
 
   other-at : (name k : List ℕ) (d : Data) (ms : Members) → is_among known name ≡ true → is_among known k ≡ false → get_member name (member k d ms) ≡ get_member name ms
   other-at name k d ms has none = at (slice_cmp nat_cmp name k) refl

@@ -8,7 +8,7 @@ use Rattle.scenario_cut.specs.Growing.{both}
 use Rattle.scenario_cut.proofs.Members.{IsObject, some-cut, equal-names}
 use Rattle.scenario_cut.proofs.Turns.{both-more}
 
--- what is kept of an item leaves as much room behind it
+-- what is kept of an item leaves as much room after it
 pub room-same : (f : Form) (n : ℕ) (d : Data) → room_behind f n (cut f d) ≡ room_behind f n d
 room-same Street n d = refl
 room-same Field n d = refl
@@ -50,7 +50,7 @@ pub kept-more : (f : Form) (start left behind : ℕ) (ds old new : Items) (d : D
     → ((rest : Items) → both old (cut_items f left (item d rest)) ≡ both new (cut_items f behind rest)) → (rest : Items) → cut_items f start (both (both ds (item d no_items)) rest) ≡ both new (cut_items f behind rest)
 kept-more f start left behind ds old new d so-far next rest = ap (cut_items f start) (sym (both-more ds d rest)) ∙ so-far (item d rest) ∙ next rest
 
--- where there is no room for an item, it is dropped, or null stands for it
+-- where there is no room for an item, it is dropped, or null represents it
 pub none-more : (f : Form) → drops f ≡ true → (ds : Items) → cut_items f 0 ds ≡ no_items
 none-more f gone no_items = refl
 none-more f gone (item d ds) = ap (λ b. if b then no_items else item null (cut_items f 0 ds)) gone
@@ -70,7 +70,7 @@ put-kept f k d (member l e ms) = at (slice_cmp nat_cmp k l) refl (put-kept f k d
     at Equal is later = ap (λ n. member l (cut (member_form f n) d) (cut_members f ms)) (sym (equal-names k l is))
     at Greater is later = ap (member l (cut (member_form f l) e)) later
 
--- an array or an object where one may stand, and where none may
+-- an array or an object where one may be, and where none may
 pub kept-array : (f : Form) (ds : Items) → opens_array f ≡ true → array (cut_items (item_form f) (room (item_form f)) ds) ≡ cut f (array ds)
 kept-array f ds opens = ap (λ b. if b then array (cut_items (item_form f) (room (item_form f)) ds) else null) (sym opens)
 

@@ -21,7 +21,7 @@ items-len f all (suc n) (item d ds) = ap suc (items-len f all (room_behind f n d
 abbrev pub Counts : Form → Type 0
 Counts f = (n : ℕ) (d : Data) → room_behind f n d ≡ n
 
--- of no more than there is room for, all are kept, and of more so many
+-- of no more than there is room for, all are kept, and of more that many
 pub len-few : (f : Form) → Counts f → (n : ℕ) (ds : Items) → items_len ds ≤ n → items_len (cut_items f n ds) ≡ items_len ds
 len-few f counts n no_items few = refl
 len-few f counts zero (item d ds) few = absurd (omega (arith, few))
@@ -34,7 +34,7 @@ len-many f counts (suc n) (item d ds) many =
     let later : n ≤ items_len (cut_items f (room_behind f n d) ds) = subst (λ m. n ≤ items_len (cut_items f m ds)) (sym (counts n d)) (len-many f counts n ds (omega (arith, many))) in
     omega (arith, later)
 
--- at a place where an array may stand and no object
+-- at a place where an array may be and no object
 pub record IsArray (f : Form) : Type 0 where
   pub opens : opens_array f ≡ true
   pub closed : opens_object f ≡ false
@@ -52,7 +52,7 @@ kept-no-object f is ms = ap (λ b. if b then object (few (names_at f) (cut_membe
 abbrev pub KeepsItem : Form → Kind → Type 0
 KeepsItem f kind = (path : List Step) (d : Data) → Same (kind path (cut f d)) (kind path d)
 
--- a list of so many items at the most, each of which is kept
+-- a list of that many items at the most, each of which is kept
 pub each-counted : (f : Form) (kind : Kind) → KeepsItem f kind → Counts f → (path : List Step) (n p : ℕ) (ds : Items) → items_len ds ≤ n
     → Same (each kind path p (cut_items f n ds)) (each kind path p ds)
 each-counted f kind keeps counts path n p no_items few = refl

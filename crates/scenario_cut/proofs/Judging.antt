@@ -1,4 +1,4 @@
--- What is known of the items of a list, one item at a time; and that what is kept of an item tells its first fault.
+-- What is known of the items of a list, one item at a time; and that what is kept of an item gives its first fault.
 use Rattle.std.proofs.Common.{◌≡◌, ◌≤◌, ◌<◌, ℕ, ◌+◌, List, [], ◌∷◌, ◌++◌, Option, Some, None, is_some, true, false, Result, Ok, Err, map, refl, sym, ap, ap₂, ◌∙◌, subst, arith, append_assoc, append-nil}
 use Rattle.std.specs.Result.{result_err}
 use Rattle.serde_json.specs.Data.{Data, Items, no_items, item}
@@ -131,7 +131,7 @@ counted-next most count ds d low c =
     let is = c.exact low in
     record { few = omega (arith, low); exact = λ k. omega (arith, one, is); many = λ k. omega (arith, one, is, k) }
 
--- a cabinet, and a load, behind those before
+-- a cabinet, and a load, after those before
 pub cabinet-judged : (e : Extent) (old new : Found) (ds : Items) (d : Data) (path : List Step) (answer : Result (Unit {0}) ReadFail)
     → Answers answer (cabinet e.version path d) (λ _. map cabinet_content new.cabinets.items ≡ map cabinet_content old.cabinets.items ++ cabinet_of e.version d ∷ [])
     → Stays Cabinets e old ds → Answers answer (item_kind Cabinets e (cabinets_of e ds) path d) (λ _. Stays Cabinets e new (both ds (item d no_items)))
@@ -145,7 +145,8 @@ load-judged e old new ds d path (Ok u) h stays =
     (subst (λ xs. load e.rounds e.cabinets xs path d ≡ []) stays h.0, h.1 ∙ ap (λ xs. xs ++ load_cabinet e.cabinets d ∷ []) stays ∙ sym (each_of-next (load_cabinet e.cabinets) ds d))
 load-judged e old new ds d path (Err fail) h stays = subst (λ xs. Refuses fail (load e.rounds e.cabinets xs path d)) stays h
 
--- what is known of items that were counted, with further faults behind theirs: past the most that are judged, behind a refusal, and of an item that is judged
+-- what is known of items that were counted, with further faults after theirs: past the most that are judged, after a
+-- refusal, and of an item that is judged
 pub counted-past : (most count : ℕ) (ds : Items) (d : Data) → most < count → Counted most count (items_len ds) → Counted most count (items_len (both ds (item d no_items)))
 counted-past most count ds d past c =
     let one = len-next ds d in
@@ -181,7 +182,7 @@ judged-past l e judged ds d past j =
           (tells-past (most_judged l) judged.refusal judged.count (items_faults l e ds) _ (Stays l e judged.found ds) _ past j.told);
     }
 
--- an item behind one at fault
+-- an item after one at fault
 pub judged-behind : (l : Listing) (e : Extent) (old new : Judged) (ds : Items) (d : Data) → old.count ≤ most_judged l → new.count ≡ old.count + 1 → new.refusal ≡ old.refusal → is_some old.refusal ≡ true
     → IsJudged l e old ds → IsJudged l e new (both ds (item d no_items))
 judged-behind l e old new ds d low more same some j =
@@ -192,7 +193,7 @@ judged-behind l e old new ds d low more same some j =
           (tells-behind (most_judged l) old.refusal old.count new.count (items_faults l e ds) _ (Stays l e old.found ds) _ some j.told));
     }
 
--- an item that is judged, behind others without faults
+-- an item that is judged, after others without faults
 pub judged-next : (l : Listing) (e : Extent) (old new : Judged) (ds : Items) (d : Data) (answer : Result (Unit {0}) ReadFail) → old.count ≤ most_judged l → new.count ≡ old.count + 1 → is_some old.refusal ≡ false → new.refusal ≡ result_err answer
     → (Stays l e old.found ds → Answers answer (item_kind l e (cabinets_of e ds) (then_item (list_path l) old.count) d) (λ _. Stays l e new.found (both ds (item d no_items))))
     → IsJudged l e old ds → IsJudged l e new (both ds (item d no_items))

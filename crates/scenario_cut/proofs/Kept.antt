@@ -18,7 +18,7 @@ use Rattle.scenario_cut.proofs.Members.{IsObject, AllKeep, object-same, held-cut
 use Rattle.scenario_cut.proofs.Items.{KeepsItem, Stops, few-same}
 use Rattle.scenario_cut.proofs.Bare.{bare-says, cell-fits}
 
--- ---- a place where only a number, a text or a word may stand
+-- ---- a place where only a number, a text or a word may be
 
 bare-same : (fits : Data → Fit) → ((ds : Items) → fits (array ds) ≡ fits null) → ((ms : Members) → fits (object ms) ≡ fits null) → (path : List Step) (d : Data) → Same (fault_at path (fits (cut Bare d))) (fault_at path (fits d))
 bare-same fits arrays objects path d = ap (λ fit. first_cause (fault_at path fit)) (bare-says fits arrays objects d)

@@ -1,4 +1,4 @@
--- The members of an object without faults: each has a known name, and what stands there has no faults of the field's kind.
+-- The members of an object without faults: each has a known name, and what is there has no faults of the field's kind.
 use Rattle.std.proofs.Common.{◌≡◌, ℕ, Bool, true, false, ◌||◌, if◌then◌else◌, List, [], ◌∷◌, ◌++◌, filter, Option, Some, None, unwrap_or, bytes_eq, refl, sym, ap, ◌∙◌, subst}
 use Rattle.std.proofs.lemmas.Slice.Eq.{bytes_eq-Decides}
 use Rattle.serde_json.specs.Data.{Data, object, Members, no_members, member}
@@ -19,7 +19,7 @@ AtEach P no_members = Unit {0}
 AtEach P (member name d ms) = P name d × AtEach P ms
 
 module _ (P : List ℕ → Data → Type 0) where
-  -- this is so of what stands at a field without faults
+  -- this is so of what is at a field without faults
   abbrev pub Gives : Field → Type 0
   Gives f = (path : List Step) (d : Data) → Sorted d → f.kind path d ≡ [] → P f.name d
 
@@ -35,7 +35,7 @@ module _ (P : List ℕ → Data → Type 0) where
   both-give [] ys a b = b
   both-give (f ∷ xs) ys a b = (a.0, both-give xs ys a.1 b)
 
-  -- so it is of what stands at a known name
+  -- so it is of what is at a known name
   at-known : (path : List Step) (d : Data) (fields : List Field) → AllGive fields → fields_faults path d fields ≡ []
       → (name : List ℕ) (v : Data) → is_among (names fields) name ≡ true → get name d ≡ Some v → Sorted v → P name v
   at-known path d [] good e name v known found sorted = absurd (cc)

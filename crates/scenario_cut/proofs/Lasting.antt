@@ -1,4 +1,4 @@
--- Members that come again: what stands for those that are passed over is replaced by the last.
+-- Members that are repeated: what represents those that are skipped is replaced by the last.
 use Rattle.std.proofs.Common.{◌≡◌, ◌<◌, ℕ, zero, suc, nat_lt, Bool, true, false, if◌then◌else◌, List, [], ◌∷◌, length, get_or, Ordering, Less, Equal, Greater, nat_cmp, bytes_eq, refl, sym, ap, ap₂, ◌∙◌, subst, arith}
 use Rattle.std.proofs.lemmas.Slice.Eq.{bytes_eq-Decides}
 use Rattle.std.specs.Cmp.Lexicographic.{slice_cmp}
@@ -23,14 +23,14 @@ place-apart (n ∷ ns) a b same low = at (place-apart ns a b) (bytes_eq a n) (by
     at rest false true p q e l = absurd (omega (arith, e))
     at rest false false p q e l = rest (omega (arith, e)) (omega (arith, l))
 
--- another name stands at another place
+-- another name is at another place
 pub other-place : (a b : List ℕ) → place_in large_names a < 7 → bytes_eq b a ≡ false → place_in large_names b ≡ place_in large_names a → ⊥
 other-place a b low other same =
     let both : bytes_eq b a ≡ true = place-apart large_names a b (sym same) low in
     let clash : true ≡ false = sym both ∙ other in
     absurd (cc)
 
--- what the numbers tell of a name
+-- what the numbers say about a name
 pub shown : (left : List ℕ) (name : List ℕ) (d : Data) → get_or left (place_in large_names name) 0 ≡ 0 → hidden left name d ≡ d
 shown left name d none = ap (λ n. if nat_lt 0 n then null else d) none
 
@@ -54,7 +54,7 @@ module _ (l : List ℕ) (old now : List ℕ → Data → Data) (d standing : Dat
       let first = enters.others name (apart-names l name (not-less (slice_cmp nat_cmp l name) below.0)) e in
       ap (λ v. member name v (filled old ms)) first ∙ ap (member name (now name e)) (without ms below.1)
 
-  -- a value that enters at the name is put among the others as what stands for it
+  -- a value that enters at the name is put among the others as what represents it
   pub put-through : (ms : Members) → MembersSorted ms → put l d (filled old ms) ≡ filled now (put l standing ms)
   put-through no_members sorted = ap (λ e. member l e no_members) (sym enters.here)
   put-through (member name e ms) sorted = at (slice_cmp nat_cmp l name) refl (put-through ms sorted.2)

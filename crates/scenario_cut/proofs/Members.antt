@@ -29,7 +29,7 @@ some-kept : (g : Data → Data) (o : Option Data) → is_some (option_map g o) �
 some-kept g None = refl
 some-kept g (Some d) = refl
 
--- at a place where an object may stand and no array
+-- at a place where an object may be and no array
 pub record IsObject (f : Form) : Type 0 where
   pub opens : opens_object f ≡ true
   pub closed : opens_array f ≡ false
@@ -44,7 +44,7 @@ kept-object f is ms = ap (λ b. if b then object (kept_members f ms) else null) 
 pub kept-array : (f : Form) → opens_array f ≡ false → (ds : Items) → cut f (array ds) ≡ null
 kept-array f closed ds = ap (λ b. if b then array (cut_items (item_form f) (room (item_form f)) ds) else null) closed
 
--- what stands at a name that an object there may have
+-- what is at a name that an object there may have
 pub get-cut : (f : Form) → IsObject f → (name : List ℕ) → is_among (names_at f) name ≡ true → (d : Data) → get name (cut f d) ≡ option_map (cut (member_form f name)) (get name d)
 get-cut f is name has null = refl
 get-cut f is name has (boolean b) = refl

@@ -77,7 +77,7 @@ right : (a b : Bool) → (a || b) ≡ false → b ≡ false
 right true b e = absurd (cc)
 right false b e = e
 
--- none of the lists stands
+-- none of the lists is there
 pub none-stands : (g : Group) (d : Data) → any_stands g d ≡ false → (l : Listing) → is_in g l ≡ true → is_some (get (name_of l) d) ≡ false
 none-stands OfCabinets d e Cabinets looked = e
 none-stands OfCabinets d e Inputs looked = not-in looked
@@ -167,14 +167,14 @@ outer-put name d ms is =
     let apart = λ (same : codes "scenario" ≡ name). let both : bytes_eq name (codes "scenario") ≡ true = (bytes_eq-Decides name (codes "scenario")).1 (sym same) in let clash : true ≡ false = sym both ∙ is in absurd (cc) in
     ap inside (get_member-put_other (codes "scenario") name d ms apart)
 
--- no list is known of what is no object
+-- no list is known of what is not an object
 pub none-inside : (s : Search) (known : Known) → ((e : Extent) → (l : Listing) → TellsIn l e (told_of l known) (object no_members)) → Knows s known null
 none-inside s known absent = λ l looked. tells-same l s.extent (told_of l known) (object no_members) null (nowhere l) (absent s.extent l)
   where
     nowhere : (l : Listing) → get (name_of l) (object no_members) ≡ get (name_of l) null
     nowhere l = refl
 
--- nothing stands at a name in what is no object
+-- nothing is at a name in what is not an object
 no-names : (d : Data) → IsNoObject d → (name : List ℕ) → get name d ≡ None
 no-names null none name = refl
 no-names (boolean b) none name = refl
@@ -183,7 +183,7 @@ no-names (string s) none name = refl
 no-names (array ds) none name = refl
 no-names (object ms) none name = absurd none
 
--- in what is no object none of the lists stands
+-- in what is not an object none of the lists is there
 pub none-named : (s : Search) (known : Known) (d : Data) → IsNoObject d → ((e : Extent) → (l : Listing) → TellsIn l e (told_of l known) (object no_members)) → Knows s known d
 none-named s known d none absent = λ l looked. tells-same l s.extent (told_of l known) (object no_members) d (nowhere l) (absent s.extent l)
   where
@@ -197,6 +197,6 @@ of-some : (o : Option Data) (v : Data) → option_map (cut Setup) o ≡ Some v �
 of-some None v e = absurd (cc)
 of-some (Some d) v e = cc
 
--- what is kept of the scenario stands in what is kept of the object
+-- what is kept of the scenario is in what is kept of the object
 pub kept-inside : (d frame v : Data) → frame ≡ cut Outer d → get (codes "scenario") frame ≡ Some v → v ≡ cut Setup (scenario_in Object d)
 kept-inside d frame v is stands = of-some (get (codes "scenario") d) v (sym (get-cut Outer is-outer (codes "scenario") refl d) ∙ ap (get (codes "scenario")) (sym is) ∙ stands)

@@ -1,4 +1,5 @@
--- A cell is kept whole. What it asks of an array or an object is what it asks of a float, and a cell has no float: so none stands in it.
+-- A cell is kept whole. What it asks of an array or an object is what it asks of a float, and a cell has no float: so
+-- none is there in it.
 use Rattle.std.proofs.Common.{◌≡◌, ◌≤◌, ℕ, zero, suc, nat_le, Bool, true, false, List, [], refl, sym, ap, ◌∙◌, arith}
 use Rattle.std.proofs.lemmas.Bool.{leb-true, leb-false}
 use Rattle.std.specs.Float.{nan}

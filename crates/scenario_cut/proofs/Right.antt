@@ -17,7 +17,7 @@ pub scenario-right : (bytes : List ℕ) (d v : Data) → Reads bytes d → v ≡
 scenario-right bytes d v reads is none =
     kept-right faults v d (ap (λ w. first_cause (faults w)) is ∙ first-kept d) (λ clean. is ∙ faultless-entire d (read-sorted bytes d reads.1) clean) none
 
--- bytes that are no JSON have that as their first fault
+-- bytes that are not JSON have that as their first fault
 pub no-text : (bytes : List ℕ) (fail : ReadFail) → OnRefusal fail (IsNoText bytes) → OnRefusal fail (IsFirstFault bytes)
 no-text bytes (Refused refusal) none = subst (IsFirstFault bytes) (sym none.0) none.1
 no-text bytes NoMemory none = tt

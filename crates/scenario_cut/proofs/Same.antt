@@ -19,7 +19,7 @@ same-both [] (y ∷ ys) more rest p q = absurd (cc)
 same-both (x ∷ xs) [] more rest p q = absurd (cc)
 same-both (x ∷ xs) (y ∷ ys) more rest p q = p
 
--- what stands behind a fault is not the first
+-- what follows a fault is not the first
 pub same-ended : (xs ys more rest : List Cause) → Same xs ys → Faulty ys → Same (xs ++ more) (ys ++ rest)
 same-ended xs [] more rest p f = absurd f
 same-ended [] (y ∷ ys) more rest p f = absurd (cc)

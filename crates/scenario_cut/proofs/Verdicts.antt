@@ -1,4 +1,4 @@
--- What the items of a list tell of the list, and what stands at its name of the scenario.
+-- What the items of a list say about the list, and what is at its name of the scenario.
 use Rattle.std.proofs.Common.{◌≡◌, ◌≢◌, ◌≤◌, ◌<◌, ℕ, ◌+◌, ◌&&◌, nat_le, Bool, true, false, if◌then◌else◌, List, [], ◌∷◌, ◌++◌, Option, Some, None, is_some, unwrap_or, bytes_eq, refl, sym, ap, ap₂, ◌∙◌, subst, arith}
 use Rattle.std.proofs.lemmas.Bool.{leb-true, leb-false}
 use Rattle.std.proofs.lemmas.Slice.Eq.{bytes_eq-Decides}
@@ -67,7 +67,7 @@ many-same Priority count len p q = both-past 0 100000 1000000 count len (omega a
 many-same Frames count len p q = both-past 0 100000 1000000 count len (omega arith) p q
 many-same Faults count len p q = both-past 0 100000 1000000 count len (omega arith) p q
 
--- what was counted tells whether there may be so many
+-- what was counted says whether there may be that many
 pub may-same : (l : Listing) (count len : ℕ) → Counted (most_judged l) count len → may_have l count ≡ may_have l len
 may-same l count len c = at (nat_le count (most_judged l)) refl
   where
@@ -110,7 +110,7 @@ refused-told l e judged ds fail is some j =
     let told : Refuses fail (items_faults l e ds) = subst (λ o. TellsUpTo (most_judged l) o judged.count (items_faults l e ds) (Stays l e judged.found ds)) some j.told in
     subst (Refuses fail) (sym (list-is l e judged.count ds true is j.counted)) told
 
--- ---- what is no list
+-- ---- what is not a list
 
 pub list-wrong : (least most : ℕ) (kind : Kind) (path : List Step) (d : Data) → IsNoList d → list_of least most kind path d ≡ fault_at path Wrong
 list-wrong least most kind path null bare = refl
@@ -139,7 +139,7 @@ kind-wrong Faults e d bare = list-wrong 0 100000 (object_of (fault_shape e.round
 pub none-told : (l : Listing) (e : Extent) (d : Data) (fail : ReadFail) → IsNoList d → Refuses fail (fault_at (list_path l) Wrong) → Refuses fail ((list_field l e).kind (list_path l) d)
 none-told l e d fail bare h = subst (Refuses fail) (sym (kind-wrong l e d bare)) h
 
--- ---- what stands at the name
+-- ---- what is at the name
 
 -- what is known of a value, or of its want
 abbrev TellsAt : Option ReadFail → Kind → List Step → Option Data → (Data → Type 0) → Option Data → Type 0
@@ -154,7 +154,7 @@ tells-same Priority e told d v is h = subst (TellsAt told.refusal (priority e.ro
 tells-same Frames e told d v is h = subst (TellsAt told.refusal (frames e.rounds e.cabinets).kind (list_path Frames) (Some (array no_items)) (StaysIn Frames e told.found)) is h
 tells-same Faults e told d v is h = subst (TellsAt told.refusal (link_faults e.rounds e.cabinets).kind (list_path Faults) (Some (array no_items)) (StaysIn Faults e told.found)) is h
 
--- with the value that stands there
+-- with the value that is there
 tells-here : (l : Listing) (e : Extent) (told : ListVerdict) (d v : Data) → Some d ≡ get (name_of l) v → TellsOf l e told d → TellsIn l e told v
 tells-here Cabinets e told d v is h = subst (TellsAt told.refusal (cabinets e.version).kind (list_path Cabinets) None (StaysIn Cabinets e told.found)) is h
 tells-here Inputs e told d v is h = subst (TellsAt told.refusal (inputs e.rounds e.cabinets).kind (list_path Inputs) (Some (array no_items)) (StaysIn Inputs e told.found)) is h
@@ -173,7 +173,7 @@ put-other l e told name d ms is h =
     let apart = λ (same : name_of l ≡ name). let both : bytes_eq name (name_of l) ≡ true = (bytes_eq-Decides name (name_of l)).1 (sym same) in let clash : true ≡ false = sym both ∙ is in absurd (cc) in
     tells-same l e told (object ms) (object (put name d ms)) (sym (get_member-put_other (name_of l) name d ms apart)) h
 
--- where it doesn't stand, the list has no items
+-- where it isn't, the list has no items
 pub absent-told : (l : Listing) (e : Extent) (found : Found) → l ≢ Cabinets → TellsIn l e (record { refusal = None; found = found }) (object no_members)
 absent-told Cabinets e found other = absurd (other refl)
 absent-told Inputs e found other = (refl, tt)
@@ -189,7 +189,7 @@ one-value bytes d v a b = inside d v (sym a.1 ∙ b.1)
     inside : (d v : Data) → Some d ≡ Some v → d ≡ v
     inside d v e = cc
 
--- what was told of the list, as an answer
+-- what was reported of the list, as an answer
 pub refused-named : (l : Listing) (e : Extent) (told : ListVerdict) (d : Data) (fail : ReadFail) → told.refusal ≡ Some fail → TellsIn l e told d → Refuses fail (field_faults [] d (list_field l e))
 refused-named l e told d fail is h = subst (λ o. Tells o (field_faults [] d (list_field l e)) (StaysIn l e told.found (held (list_field l e) d))) is h
 

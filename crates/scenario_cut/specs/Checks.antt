@@ -19,7 +19,7 @@ head_fields = version ∷ rounds ∷ ticks ∷ community ∷ []
 abbrev pub head_faults : Data → List Cause
 head_faults d = names_faults (names (known_fields (scenario_shape 1 1 1) d)) [] d ++ fields_faults [] d head_fields
 
--- the numbers that stand there
+-- the numbers that are there
 abbrev pub head_of : Data → Head
 head_of d = record { version = version_number d; rounds = round_count d; ticks = tick_count d }
 
@@ -40,8 +40,8 @@ cabinets_at h d = list_in (cabinet_of h.version) (held (cabinets h.version) d)
 abbrev pub extent_at : Head → Data → Extent
 extent_at h d = record { version = h.version; rounds = h.rounds; cabinets = length (cabinets_at h d) }
 
--- the faults behind those fields, where the numbers are these and the master is read from another value: of the cabinets, the master,
--- what happens, the number of ticks, and the tables
+-- the faults after those fields, where the numbers are these and the master is read from another value: of the
+-- cabinets, the master, what happens, the number of ticks, and the tables
 abbrev pub behind_faults : Head → Data → Data → List Cause
 behind_faults h d setup =
     field_faults [] d (cabinets h.version)

@@ -1,9 +1,9 @@
--- What is kept of a scenario's value whose first fault is asked, and of an object around a scenario. null stands for an array or an object
--- where only a number, a text or a word may stand, since it is at fault there whatever it holds, and in Setup and Outer for a list of which
--- nothing is asked: all but the master's schedule, the bank, and the rules by which patterns follow traffic; and for what happens, and for
--- pulses, behind one that lacks a name which each must have. Of cabinets, entries, sections, steps, cells and their parts only so many are
--- kept.
--- Of the names that no object there may have only the first is kept, with null: it is at fault before all that stands in the object.
+-- What is kept of a scenario's value whose first fault is asked, and of an object around a scenario. null represents an
+-- array or an object where only a number, a text or a word may be, since it is at fault there whatever it holds, and in
+-- Setup and Outer for a list of which nothing is asked: all but the master's schedule, the bank, and the rules by which
+-- patterns follow traffic; and for what happens, and for pulses, after one that lacks a name which each must have. Of
+-- cabinets, entries, sections, steps, cells and their parts only that many are kept. Of the names that no object there
+-- may have only the first is kept, with null: it is at fault before all that is in the object.
 use Rattle.std.specs.Prelude.{ℕ, zero, suc, ◌&&◌, ◌||◌, Bool, true, false, if◌then◌else◌, List, [], ◌∷◌, ◌++◌, codes, bytes_eq, is_some}
 use Rattle.serde_json.specs.Data.{Data, null, boolean, number, string, array, object, Items, no_items, item, Members, no_members, member}
 use Rattle.serde_json.specs.Find.{get}
@@ -11,7 +11,7 @@ use Rattle.scenario_read.specs.Kinds.{is_among}
 pub use Rattle.scenario_cut.specs.declared.form.Form.{Form}
 pub use Rattle.scenario_cut.specs.declared.form.Form.TheVariants.{Street, Field, Outer, Whole, Setup, Cabinets, Cabinet, Events, Event, Pulses, Pulse, Master, Entries, Entry, Respond, Sections, Section, Steps, Step, Rows, Row, Part, Times, Bare}
 
--- an array may stand there
+-- an array may be there
 abbrev pub opens_array : Form → Bool
 opens_array Cabinets = true
 opens_array Events = true
@@ -24,7 +24,7 @@ opens_array Row = true
 opens_array Times = true
 opens_array _ = false
 
--- an object may stand there
+-- an object may be there
 abbrev pub opens_object : Form → Bool
 opens_object Street = true
 opens_object Field = true
@@ -104,7 +104,7 @@ abbrev pub entry_names : List (List ℕ)
 entry_names =
     codes "second" ∷ codes "section" ∷ codes "pattern" ∷ codes "cabinet" ∷ codes "detector" ∷ codes "phase" ∷ codes "delay" ∷ codes "extend" ∷ codes "no_activity" ∷ codes "max_presence" ∷ codes "erratic" ∷ []
 
--- the names that an object there may have, whichever of the objects that may stand there it is
+-- the names that an object there may have, whichever of the objects that is allowed there it is
 abbrev pub names_at : Form → List (List ℕ)
 names_at Street = codes "scenario" ∷ codes "section" ∷ codes "pattern" ∷ codes "travel" ∷ []
 names_at Field = codes "scenario" ∷ codes "bank" ∷ codes "pulses" ∷ codes "respond" ∷ []
@@ -139,7 +139,7 @@ is_of_a_round d = is_some (get (codes "round") d) && is_some (get (codes "cabine
 abbrev pub is_a_pulse : Data → Bool
 is_a_pulse d = is_of_a_round d && (is_some (get (codes "detector") d) && is_some (get (codes "on") d))
 
--- how many items of this kind may still be kept: at the beginning, and behind an item; 1 stands for any number
+-- how many items of this kind may still be kept: at the beginning, and after an item; 1 represents any number
 abbrev pub room : Form → ℕ
 room Cabinet = 65
 room Entry = 1001
@@ -160,7 +160,7 @@ room_behind Event n d = if is_of_a_round d then suc n else 0
 room_behind Pulse n d = if is_a_pulse d then suc n else 0
 room_behind _ n d = suc n
 
--- items for which there is no room are dropped: so many are kept that their list is at fault for its number of items
+-- items for which there is no room are dropped: that many are kept that their list is at fault for its number of items
 abbrev pub drops : Form → Bool
 drops Cabinet = true
 drops Entry = true

@@ -20,7 +20,7 @@ use Rattle.scenario_cut.specs.declared.judge.Listing.TheVariants.{Cabinets, Inpu
 use Rattle.scenario_cut.specs.declared.listing.Judged.{Judged}
 use Rattle.scenario_cut.specs.declared.listing.ListVerdict.{ListVerdict}
 
--- the name of a list, and where it stands
+-- the name of a list, and where it is
 abbrev pub name_of : Listing → List ℕ
 name_of Cabinets = codes "cabinets"
 name_of Inputs = codes "inputs"
@@ -77,7 +77,7 @@ abbrev pub Tells : Option ReadFail → List Cause → Type 0 → Type 0
 Tells None causes P = (causes ≡ []) × P
 Tells (Some fail) causes P = Refuses fail causes
 
--- up to so many items what was judged tells of the whole list: of cabinets as many as may stand there
+-- up to that many items what was judged says about the whole list: of cabinets as many as are allowed there
 abbrev pub most_judged : Listing → ℕ
 most_judged Cabinets = 64
 most_judged Inputs = 1000000
@@ -102,7 +102,7 @@ pub record IsJudged (l : Listing) (e : Extent) (judged : Judged) (ds : Items) : 
   pub counted : Counted (most_judged l) judged.count (items_len ds)
   pub told : TellsUpTo (most_judged l) judged.refusal judged.count (items_faults l e ds) (Stays l e judged.found ds)
 
--- so many items may stand in the list; of loads any number, since each is counted with those of its cabinet
+-- that many items may be in the list; of loads any number, since each is counted with those of its cabinet
 abbrev pub may_have : Listing → ℕ → Bool
 may_have Cabinets n = nat_le 1 n && nat_le n 64
 may_have Inputs n = nat_le 0 n && nat_le n 1000000
@@ -111,7 +111,7 @@ may_have Priority n = nat_le 0 n && nat_le n 100000
 may_have Frames n = nat_le 0 n && nat_le n 100000
 may_have Faults n = nat_le 0 n && nat_le n 100000
 
--- a value is no list
+-- a value is not a list
 abbrev pub IsNoList : Data → Type 0
 IsNoList (array ds) = ⊥
 IsNoList _ = Unit {0}
@@ -125,7 +125,7 @@ StaysIn Priority e found d = Unit {0}
 StaysIn Frames e found d = Unit {0}
 StaysIn Faults e found d = Unit {0}
 
--- a value that stands as the list was judged
+-- a value that is given as the list was judged
 abbrev pub TellsOf : Listing → Extent → ListVerdict → Data → Type 0
 TellsOf l e told d = Tells told.refusal ((list_field l e).kind (list_path l) d) (StaysIn l e told.found d)
 

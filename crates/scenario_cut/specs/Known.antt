@@ -1,4 +1,5 @@
--- The lists that are looked for in one pass over a scenario's text: the cabinets, or those of what happens; and what is known of each.
+-- The lists that are looked for in one skip a scenario's text: the cabinets, or those of what happens; and what is
+-- known of each.
 use Rattle.std.specs.Prelude.{ℕ, ◌≡◌, ◌||◌, Bool, true, false, if◌then◌else◌, List, Option, Some, None, is_some, bytes_eq}
 use Rattle.serde_json.specs.Data.{Data}
 use Rattle.serde_json.specs.Find.{get}
@@ -26,7 +27,7 @@ is_in OfEvents Priority = true
 is_in OfEvents Frames = true
 is_in OfEvents Faults = true
 
--- a list stands in a scenario, and one of those does
+-- a list is in a scenario, and one of those does
 abbrev pub stands : Listing → Data → Bool
 stands l d = is_some (get (name_of l) d)
 

@@ -5,6 +5,6 @@ use Rattle.scenario_data.specs.declared.refusal.Refusal.{Refusal}
 use Rattle.scenario_data.specs.declared.refusal.Refusal.TheVariants.{Syntax}
 use Rattle.scenario_read.specs.Answers.{Reads}
 
--- the refusal is that the bytes are no JSON, and they are none
+-- the refusal is that the bytes are not JSON, and they are none
 abbrev pub IsNoText : List ℕ → Refusal → Type 0
 IsNoText bytes refusal = (refusal ≡ Syntax) × ((d : Data) → Reads bytes d → ⊥)

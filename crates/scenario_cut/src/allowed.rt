@@ -43,7 +43,7 @@ fn is_of_input(name: &str) -> bool
     )
 }
 
-/// Whether a request or its cancel may have this name, beside its round and its cabinet.
+/// Whether a request or its cancel may have this name, in addition to its round and its cabinet.
 fn is_of_request(name: &str) -> bool
     ensures { result ≡ is_among request_names name.now }
 {
@@ -61,7 +61,7 @@ fn is_of_request(name: &str) -> bool
     )
 }
 
-/// Whether a frame or a fault of the link may have this name, beside its round and its cabinet.
+/// Whether a frame or a fault of the link may have this name, in addition to its round and its cabinet.
 fn is_of_link(name: &str) -> bool
     ensures { result ≡ is_among link_names name.now }
 {

@@ -14,14 +14,15 @@ use crate::passing::{pass, pass_rest};
 use json::{Reader, Scratch, Token};
 use std::alloc::Global;
 
-/// What stands around the scenario of a text: nothing, or an object that has it at `scenario`.
+/// What is around the scenario of a text: nothing, or an object that has it at `scenario`.
 #[derive(Clone, Copy)]
 pub enum Around {
     Nothing,
     Object,
 }
 
-/// What is known of the lists of the reader's next value, a scenario nested at most so deep. In a value that is no object none stands.
+/// What is known of the lists of the reader's next value, a scenario nested at most so deep. In a value that is not an
+/// object none is there.
 fn judge_scenario(
     alloc: Global,
     reader: &mut Reader<'_>,
@@ -76,7 +77,7 @@ fn judge_inner(
     }
 }
 
-/// Judges the scenario that stands among the members up to the brace that closes an object, each so deep at most.
+/// Judges the scenario that is among the members up to the brace that closes an object, each so deep at most.
 fn judge_rest(
     alloc: Global,
     reader: &mut Reader<'_>,
@@ -97,8 +98,8 @@ fn judge_rest(
     }
 }
 
-/// What is known of the lists of the scenario that stands among the members up to the brace that closes an object, each nested at most
-/// so deep.
+/// What is known of the lists of the scenario that is among the members up to the brace that closes an object, each
+/// nested at most so deep.
 fn judge_outer(
     alloc: Global,
     reader: &mut Reader<'_>,
@@ -115,7 +116,8 @@ fn judge_outer(
     }
 }
 
-/// What is known of the lists of the scenario that stands at `scenario` of the reader's next value, an object nested at most so deep.
+/// What is known of the lists of the scenario that is at `scenario` of the reader's next value, an object nested at
+/// most so deep.
 fn judge_object(
     alloc: Global,
     reader: &mut Reader<'_>,
@@ -159,7 +161,7 @@ fn judge_value(
     }
 }
 
-/// What is known of the lists of the scenario of a text; none, where this way does not tell.
+/// What is known of the lists of the scenario of a text; none, where this way does not say.
 pub(crate) fn known_of(alloc: Global, bytes: &[u8], around: Around, search: Search) -> Option<Known>
     ensures { IfSome result (λ known. (d : Data) × Reads bytes.now d × Knows search known (scenario_in around d)) }
 {

@@ -23,7 +23,7 @@ use scenario_read::{
 use serde_json::Value;
 use std::alloc::Global;
 
-/// The numbers of a scenario that stand before its cabinets.
+/// The numbers of a scenario that are before its cabinets.
 #[derive(Clone, Copy)]
 pub(crate) struct Head {
     pub version: u32,
@@ -31,7 +31,7 @@ pub(crate) struct Head {
     pub ticks: u32,
 }
 
-/// The numbers before the cabinets, refused at the first fault of a name or of what stands before them.
+/// The numbers before the cabinets, refused at the first fault of a name or of what is before them.
 fn head_in(alloc: Global, setup: &Value) -> Result<Head, ReadFail>
     ensures read { Answers result (head_faults (view setup.now)) (λ head. head ≡ head_of (view setup.now)) }
     ensures few { IfOk result (λ head. (head.rounds ≤ 86400) × (head.ticks ≤ 600)) }
@@ -82,8 +82,8 @@ fn within_ticks(alloc: Global, cabinets: usize, head: Head) -> Result<(), ReadFa
     }
 }
 
-/// The checks behind the numbers, of a text of whose scenario this is kept beside its lists: the extent of the scenario, or its first
-/// fault.
+/// The checks after the numbers, of a text of whose scenario this is kept in addition to its lists: the extent of the
+/// scenario, or its first fault.
 fn judge_behind(
     alloc: Global,
     bytes: &[u8],
@@ -129,8 +129,8 @@ fn judge_behind(
     }
 }
 
-/// The extent of the scenario of a text, of which this is kept beside its lists, or its first fault. Want of memory stands also for what
-/// this way does not tell.
+/// The extent of the scenario of a text, of which this is kept in addition to its lists, or its first fault. Lack of
+/// memory is also the answer for what this way does not say.
 fn fault_of(alloc: Global, bytes: &[u8], around: Around, setup: &Value) -> Result<Extent, ReadFail>
     ensures { (d : Data) → Reads bytes.now d → view setup.now ≡ cut Setup (scenario_in around d)
         → Answers result (faults (scenario_in around d)) (λ e. e ≡ extent_of (scenario_in around d)) }
@@ -145,7 +145,7 @@ fn fault_of(alloc: Global, bytes: &[u8], around: Around, setup: &Value) -> Resul
     }
 }
 
-/// Judges a scenario's text in little memory. Want of memory stands also for what this way does not tell.
+/// Judges a scenario's text in little memory. Lack of memory is also the answer for what this way does not say.
 pub(crate) fn first_fault(alloc: Global, bytes: &[u8]) -> Result<(), ReadFail>
     ensures { IfErr result (λ fail. OnRefusal fail (IsFirstFault bytes.now)) }
 {

@@ -1,5 +1,5 @@
-//! The places of a value that is read, by what may open there and how much of it is kept: a scenario, and the objects around one
-//! that ask of through bands or tell of detectors.
+//! The places of a value that is read, by what may open there and how much of it is kept: a scenario, and the objects
+//! around one that ask for progression bands or describe detectors.
 
 ghost use Rattle.std.specs.Prelude.{◌≡◌, ◌<◌, ◌≤◌, ◌+◌, bytes_eq, if◌then◌else◌};
 ghost use Rattle.serde_json.specs.View.{view};
@@ -40,7 +40,7 @@ pub enum Form {
     Bare,
 }
 
-/// Whether an array may stand there.
+/// Whether an array may be there.
 pub(crate) fn opens_array(form: Form) -> bool
     ensures { result ≡ opens_array form }
 {
@@ -58,7 +58,7 @@ pub(crate) fn opens_array(form: Form) -> bool
     )
 }
 
-/// Whether an object may stand there.
+/// Whether an object may be there.
 pub(crate) fn opens_object(form: Form) -> bool
     ensures { result ≡ opens_object form }
 {
@@ -207,7 +207,7 @@ fn is_a_pulse(object: &Value) -> bool
     is_of_a_round(object) && (object.get("detector").is_some() && object.get("on").is_some())
 }
 
-/// How many items of this kind are kept at the most, more than any right list has; 1 stands for any number.
+/// How many items of this kind are kept at the most, more than any right list has; 1 represents any number.
 pub(crate) fn room(form: Form) -> usize
     ensures room { result ≡ room form }
     ensures few { result ≤ 4097 }
@@ -222,7 +222,7 @@ pub(crate) fn room(form: Form) -> usize
     }
 }
 
-/// How many more may be kept behind an item, where there is room for one and so many more.
+/// How many more may be kept after an item, where there is room for one and that many more.
 pub(crate) fn room_behind(form: Form, more: usize, item: &Value) -> usize
     requires { more < 4097 }
     ensures behind { result ≡ room_behind form more (view item.now) }

@@ -25,7 +25,7 @@ use scenario_data::ReadFail;
 use serde_json::Value;
 use std::alloc::Global;
 
-/// Whether a list stands in a scenario, of which this is kept.
+/// Whether a list is in a scenario, of which this is kept.
 fn stands(setup: &Value, list: Listing) -> bool
     ensures { result ≡ stands list (view setup.now) }
 {
@@ -44,7 +44,7 @@ fn answer_of(told: ListVerdict) -> Result<Found, ReadFail>
     }
 }
 
-/// Whether one of the lists stands in a scenario, of which this is kept.
+/// Whether one of the lists is in a scenario, of which this is kept.
 fn any_stands(setup: &Value, group: Group) -> bool
     ensures { result ≡ any_stands group (view setup.now) }
 {
@@ -60,7 +60,8 @@ fn any_stands(setup: &Value, group: Group) -> bool
     }
 }
 
-/// What is known of the lists of a text's scenario, of which this is kept beside its lists; none, where this way does not tell.
+/// What is known of the lists of a text's scenario, of which this is kept in addition to its lists; none, where this
+/// way does not say.
 fn known_in(
     alloc: Global,
     bytes: &[u8],
@@ -79,8 +80,8 @@ fn known_in(
     }
 }
 
-/// Judges the cabinets of a text's scenario: what stays of them, or their first fault. Want of memory stands for what this way does not
-/// tell.
+/// Judges the cabinets of a text's scenario: what stays of them, or their first fault. Lack of memory represents what
+/// this way does not say.
 pub(crate) fn judge_cabinets(
     alloc: Global,
     bytes: &[u8],
@@ -101,7 +102,7 @@ pub(crate) fn judge_cabinets(
     }
 }
 
-/// The first fault of a list, or else what is answered of those behind it.
+/// The first fault of a list, or else what is answered of those after it.
 fn behind(told: ListVerdict, rest: Result<(), ReadFail>) -> Result<(), ReadFail>
     ensures { (l : Listing) → (e : Extent) → (d : Data) → (causes : List Cause) → TellsIn l e told d → Answers rest causes (λ _. Unit {0})
         → Answers result (field_faults [] d (list_field l e) ++ causes) (λ _. Unit {0}) }
@@ -124,7 +125,8 @@ fn first_of(known: Known) -> Result<(), ReadFail>
     behind(known.inputs, from_loads)
 }
 
-/// Judges what happens in the rounds of a text's scenario. Want of memory stands also for what this way does not tell.
+/// Judges what happens in the rounds of a text's scenario. Lack of memory is also the answer for what this way does not
+/// say.
 pub(crate) fn judge_events(
     alloc: Global,
     bytes: &[u8],

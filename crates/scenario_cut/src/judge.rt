@@ -72,7 +72,7 @@ fn form_of(list: Listing) -> Form
     }
 }
 
-/// Judges a cabinet, and puts what it says behind those before.
+/// Judges a cabinet, and puts what it says after those before.
 fn judge_cabinet(
     alloc: Global,
     object: &Value,
@@ -92,7 +92,7 @@ fn judge_cabinet(
     }
 }
 
-/// Judges a load, and puts it behind those before.
+/// Judges a load, and puts it after those before.
 fn judge_load(
     alloc: Global,
     object: &Value,
@@ -147,7 +147,7 @@ fn judge_event(
     }
 }
 
-/// Judges the item at a place, counted from 0, behind those of which this stays.
+/// Judges the item at a place, counted from 0, after those of which this stays.
 fn judge_item(
     alloc: Global,
     object: &Value,

@@ -19,7 +19,7 @@ use json::{Reader, Token};
 use serde_json::{Map, Value};
 use std::alloc::Global;
 
-/// Puts a value at a name, in place of what stood there.
+/// Puts a value at a name, in place of what was there.
 pub(crate) fn put_member(members: &mut Map<String, Value>, name: String, value: Value) -> Option<()>
     ensures { IfSome result (λ _. members_view members.new.entries ≡ put (string_bytes name) (view value) (members_view members.old.entries)) }
 {
@@ -32,7 +32,7 @@ pub(crate) fn put_member(members: &mut Map<String, Value>, name: String, value: 
     }
 }
 
-/// Puts the least of the other names, if there is one, among the members that are kept. Null stands for its value.
+/// Puts the least of the other names, if there is one, among the members that are kept. Null represents its value.
 pub(crate) fn put_other(
     members: Map<String, Value>,
     other: Option<String>,
@@ -49,7 +49,7 @@ pub(crate) fn put_other(
     }
 }
 
-/// Puts a value behind the items that are kept.
+/// Puts a value after the items that are kept.
 fn put_item(found: &mut Vec<Value>, value: Value) -> Option<()>
     ensures { IfSome result (λ _. (rest : Items) → both (items_view found.old.items) (item (view value) rest) ≡ both (items_view found.new.items) rest) }
 {
@@ -59,7 +59,7 @@ fn put_item(found: &mut Vec<Value>, value: Value) -> Option<()>
     }
 }
 
-/// Passes over an item for which there is no room. Null stands for it, or it is dropped.
+/// Skips an item for which there is no room. Null represents it, or it is dropped.
 fn pass_item(
     reader: &mut Reader<'_>,
     depth: usize,
@@ -82,8 +82,8 @@ fn pass_item(
     }
 }
 
-/// What is kept of the next value of the reader, at a place of this form, with arrays and objects nested at most so deep; none, where
-/// memory is wanting or the value has no reading.
+/// What is kept of the next value of the reader, at a place of this form, with arrays and objects nested at most so
+/// deep; none, if memory runs out or the value has no reading.
 #[cycle(keep)]
 pub fn keep(alloc: Global, reader: &mut Reader<'_>, depth: usize, form: Form) -> Option<Value>
     ensures ok { IfSome result (λ v. (d : Data) × (converted of_json (value depth reader.old) ≡ Some (d, reader.new)) × (view v ≡ cut form d)) }
@@ -135,7 +135,8 @@ pub fn keep(alloc: Global, reader: &mut Reader<'_>, depth: usize, form: Form) ->
     }
 }
 
-/// Keeps what is kept of the next item of a list that has room for so many, behind those before. Returns the room behind it.
+/// Keeps what is kept of the next item of a list that has room for that many, after those before. Returns the room
+/// after it.
 #[cycle(keep)]
 fn keep_item(
     alloc: Global,

@@ -1,4 +1,4 @@
-//! A whole scenario of whose equal names the last is kept. Those before it are skipped where they may have much behind
+//! A whole scenario of whose equal names the last is kept. Those before it are skipped where they may have much after
 //! them. How often each name comes is counted first; that the last of each was kept is seen in the end.
 
 ghost use Rattle.std.specs.Prelude.{◌≡◌, ◌<◌, ◌≤◌, ℕ, List, true, false, length, nat_lt, bytes_eq, get_or, Some, IfSome, IsTrue};
@@ -18,7 +18,7 @@ use json::{Reader, Scratch, Token};
 use serde_json::{Map, Value};
 use std::alloc::Global;
 
-/// The place of a name among those that may have much behind them; 7, where it is none of them.
+/// The place of a name among those that may have much after them; 7, where it is none of them.
 fn place_of(name: &str) -> usize
     ensures { result ≡ place_in large_names name.now }
 {
@@ -134,8 +134,8 @@ fn keep_or_pass(
     }
 }
 
-/// What is kept of the members up to the brace that closes the whole object, where each name comes at the most so often. Of the names
-/// that no scenario may have it is the least.
+/// What is kept of the members up to the brace that closes the whole object, where each name comes at the most that
+/// often. Of the names that no scenario may have it is the least.
 fn keep_last(
     alloc: Global,
     reader: &mut Reader<'_>,
@@ -177,7 +177,7 @@ fn keep_last(
     }
 }
 
-/// What is kept of the value of the bytes as a whole scenario; none, where memory is wanting or they are no such text.
+/// What is kept of the value of the bytes as a whole scenario; none if memory runs out or they are not such a text.
 pub(crate) fn kept_last(alloc: Global, bytes: &[u8]) -> Option<Value>
     ensures { IfSome result (λ kept. (d : Data) × Reads bytes.now d × (view kept ≡ cut Whole d)) }
 {

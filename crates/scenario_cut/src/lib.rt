@@ -1,6 +1,6 @@
-//! What is kept of a scenario's value of which the first fault is asked: less than the value, with the same first
-//! fault, and the value itself where it has none. Its first fault is looked for without that where it can be, list by
-//! list. Readers of objects around a scenario take from here how a value is kept or skipped.
+//! What is kept of an invalid scenario's value while its first fault is searched: a smaller value with the same first
+//! fault; a value without faults is kept whole. If possible the first fault is found without that, list by list.
+//! Readers of objects around a scenario use this crate to keep or skip a value.
 #![tactic(auto)]
 
 mod allowed;

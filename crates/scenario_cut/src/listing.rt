@@ -1,5 +1,5 @@
-//! A list at the top of a scenario, judged item by item. Behind its first fault, and past the most that are judged, the
-//! items are skipped; so that no list takes more than one item's memory, beside what stays of the items.
+//! A list at the top of a scenario, judged item by item. After its first fault, and past the most that are judged, the
+//! items are skipped; so that no list takes more than one item's memory, in addition to what stays of the items.
 
 ghost use Rattle.std.specs.Prelude.{◌≡◌, ◌<◌, ◌≤◌, [], length, Some, IfSome};
 ghost use Rattle.json.specs.Json.{value, items};
@@ -42,7 +42,8 @@ pub(crate) fn nothing(alloc: Global) -> Found
     }
 }
 
-/// Up to how many items what was judged tells of the whole list: of cabinets as many as may stand there. One more is judged.
+/// Up to how many items what was judged says about the whole list: of cabinets as many as are allowed there. One more
+/// is judged.
 fn most_judged(list: Listing) -> usize
     ensures most { result ≡ most_judged list }
     ensures few { result ≤ 1000000 }
@@ -114,7 +115,7 @@ fn judge_items(
     Some(judged)
 }
 
-/// Whether so many items may stand in a list; of loads any number, since each is counted with those of its cabinet.
+/// Whether that many items may be in a list; of loads any number, since each is counted with those of its cabinet.
 fn may_have(list: Listing, count: usize) -> bool
     ensures { result ≡ may_have list count }
 {
@@ -155,7 +156,7 @@ fn verdict(alloc: Global, list: Listing, judged: Judged) -> Option<ListVerdict>
     Some(ListVerdict { refusal, found })
 }
 
-/// The refusal of what stands as a list and is none.
+/// The refusal of what is given as a list and is none.
 fn no_list(alloc: Global, list: Listing) -> ListVerdict
     ensures { (e : Extent) → (d : Data) → IsNoList d → TellsOf list e result d }
 {

@@ -42,7 +42,7 @@ pub(crate) struct Known {
     pub faults: ListVerdict,
 }
 
-/// What is known of a list that doesn't stand: the cabinets must, and any other has no items.
+/// What is known of a list that isn't: the cabinets must, and any other has no items.
 fn absent(alloc: Global, list: Listing) -> ListVerdict
     ensures { (e : Extent) → TellsIn list e result (object no_members) }
 {
@@ -58,7 +58,7 @@ fn absent(alloc: Global, list: Listing) -> ListVerdict
     }
 }
 
-/// What is known where none of the lists stands.
+/// What is known where none of the lists is there.
 pub(crate) fn all_absent(alloc: Global) -> Known
     ensures { (e : Extent) → (l : Listing) → TellsIn l e (told_of l result) (object no_members) }
 {

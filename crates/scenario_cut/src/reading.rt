@@ -17,8 +17,8 @@ use scenario_read::{checked_parts, scenario_from};
 use serde_json::Value;
 use std::alloc::Global;
 
-/// What is kept of the value of the bytes as a whole scenario, of equal names the last alone where that can be seen; refused where they
-/// are no JSON.
+/// What is kept of the value of the bytes as a whole scenario, of equal names only the last where that can be seen;
+/// refused where they are not JSON.
 fn kept_whole(alloc: Global, bytes: &[u8]) -> Result<Value, ReadFail>
     ensures kept { IfOk result (λ kept. (d : Data) × Reads bytes.now d × (view kept ≡ cut Whole d)) }
     ensures none { IfErr result (λ fail. OnRefusal fail (IsNoText bytes.now)) }

@@ -33,7 +33,7 @@ fn is_json(alloc: Global, bytes: &[u8]) -> Result<bool, NoMemory>
     Ok(reader.next().is_none())
 }
 
-/// What is kept of the value of the bytes; none, where memory is wanting or they are no JSON.
+/// What is kept of the value of the bytes; none, if memory runs out or they are not JSON.
 fn kept_value(alloc: Global, bytes: &[u8], form: Form) -> Option<Value>
     ensures { IfSome result (λ kept. (d : Data) × Reads bytes.now d × (view kept ≡ cut form d)) }
 {

@@ -1,4 +1,4 @@
--- The faults of a scenario's value, apart from the memory in which an answer stands; and which of them a refusal names.
+-- The faults of a scenario's value, without the memory that holds an answer; and which of them a refusal names.
 use Rattle.std.specs.Prelude.{ℕ, ◌≡◌, List, Option, Some, string_bytes}
 use Rattle.scenario_data.specs.declared.refusal.Refusal.{Refusal}
 use Rattle.scenario_data.specs.declared.refusal.Refusal.TheVariants.{Syntax, Field as FieldRefusal, Limit as LimitRefusal, Broken as BrokenRefusal}

@@ -1,4 +1,4 @@
--- A scenario as its content: the numbers and lists that it holds, apart from the memory in which they stand.
+-- A scenario as its content: the numbers and lists that it holds, without the memory that holds them.
 use Rattle.std.specs.Prelude.{ℕ, List, map}
 use Rattle.sig_types.specs.declared.notes.Way.{Way}
 use Rattle.sig_tables.specs.declared.cells.Cell.{Cell}

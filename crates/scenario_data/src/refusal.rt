@@ -6,8 +6,8 @@
 pub enum Refusal {
     /// The text has no reading in JSON (RFC 8259).
     Syntax,
-    /// A name that is not known, a value that is missing or of the wrong kind, a cell that does not exist, or two alternatives
-    /// or none where one must stand.
+    /// A name that is not known, a value that is missing or of the wrong kind, a cell that does not exist, or two
+    /// alternatives or none where one must be.
     Field(String),
     /// A number, a length or a cell's value out of its range.
     Limit(String),

@@ -84,7 +84,7 @@ pub struct PriorityItem {
     pub act: PriorityAct,
 }
 
-/// Octets that reach a cabinet on a stream in a round, as they stand.
+/// Octets that reach a cabinet on a stream in a round, as they are.
 #[derive(Drop)]
 pub struct FrameItem {
     pub round: u32,

@@ -185,7 +185,7 @@ mutual
 pub tree-numerals : (j : json.Json) (d : Data) → of_json j ≡ Some d → HasNumerals d
 tree-numerals j d e = subst (IfFound HasNumerals) e (of_json-numerals j)
 
--- so has what stands at a name
+-- so has what is at a name
 pub numerals-there : (k : List ℕ) (d v : Data) → get k d ≡ Some v → HasNumerals d → HasNumerals v
 numerals-there k null v e h = absurd (cc)
 numerals-there k (boolean b) v e h = absurd (cc)

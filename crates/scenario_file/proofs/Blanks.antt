@@ -1,4 +1,4 @@
--- Empty objects, which stand for the cabinets in the frame of a scenario.
+-- Empty objects, which represent the cabinets in the frame of a scenario.
 use Rattle.std.proofs.Common.{◌≡◌, ℕ, zero, suc, ◌+◌, List, Bool, true, false, if◌then◌else◌, bytes_eq, codes, refl, ap, ◌∙◌, arith}
 use Rattle.serde_json.specs.Data.{object, array, Items, no_items, item, no_members}
 use Rattle.serde_json.specs.Events.{items_len}

@@ -36,16 +36,16 @@ before_lists v = version ∷ setup_fields v
 
 -- ---- the cabinets
 
--- the faults of what stands for the cabinets
+-- the faults of what represents the cabinets
 abbrev cabinets_faults : ℕ → Option Data → List Cause
 cabinets_faults v o = faults_of (cabinets v).kind (list_path (codes "cabinets")) (either o None)
 
--- where they are without fault, they stand in the frame
+-- where they are without fault, they are in the frame
 stand-blank : (v : ℕ) (o : Option Data) (ds : Items) → cabinets_faults v o ≡ [] → IsHeld (codes "cabinets") o ds → o ≡ Some (array (blanks (items_len ds)))
 stand-blank v None ds e held = absurd (cc)
 stand-blank v (Some d) ds e held = ap Some held
 
--- the items stand in the value then
+-- the items are in the value then
 stand-whole : (rows : List ℕ → Items) (ms : Members) → get_member (codes "cabinets") ms ≡ Some (array (blanks (items_len (rows (codes "cabinets")))))
     → get_member (codes "cabinets") (with_lists rows ms) ≡ Some (array (rows (codes "cabinets")))
 stand-whole rows ms frame =
@@ -84,7 +84,7 @@ frame-cabinets ms e =
     let i = none-left (field_faults [] d community) (fields_faults [] d (cabinets v ∷ master ∷ [])) h.1 in
     (none-left (field_faults [] d (cabinets v)) (fields_faults [] d (master ∷ [])) i.1).0
 
--- what a value says of its cabinets where this stands
+-- what a value says of its cabinets where this is there
 abbrev cabinets_said : ℕ → Option Data → List CabinetContent
 cabinets_said v o = list_in (cabinet_of v) (unwrap_or (either o None) null)
 

@@ -58,7 +58,7 @@ same-number f fill d stays = ap whole_of (same-held f fill d stays)
 abbrev pub Becomes : (List ℕ → Data → Data) → List ℕ → Items → Type 0
 Becomes fill name ds = (d : Data) → fill name d ≡ array ds
 
--- what stands at the name of a list, or counts where nothing does, is the list of its items
+-- what is at the name of a list, or counts where nothing does, is the list of its items
 pub stood : (name : List ℕ) (fill : List ℕ → Data → Data) (d : Data) (ds : Items) → Becomes fill name ds → IsHeld name (get name d) ds → either (get name (filled_in fill d)) (Some (array no_items)) ≡ Some (array ds)
 stood name fill d ds becomes held = ap (λ o. either o (Some (array no_items))) (get-in fill name d) ∙ counts (get name d) held
   where

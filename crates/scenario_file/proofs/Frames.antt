@@ -39,11 +39,11 @@ with-same rows l ds = ap (λ b. if b then ds else rows l) ((bytes_eq-Decides l l
 
 -- ---- what enters at a name
 
--- a value that stands for itself
+-- a value that represents itself
 pub enters-same : (fill : List ℕ → Data → Data) (name : List ℕ) (d : Data) → fill name d ≡ d → Enters fill fill name d d
 enters-same fill name d is = record { here = is; others = λ other apart e. refl }
 
--- a list at its name, whatever stands there in the frame
+-- a list at its name, whatever is there in the frame
 pub enters-list : (l : List ℕ) (rows : List ℕ → Items) (ds : Items) (standing : Data) → is_list l ≡ true → Enters (value_in rows) (value_in (with_rows rows l ds)) l (array ds) standing
 enters-list l rows ds standing is =
     let now = with_rows rows l ds in
@@ -56,7 +56,7 @@ enters-list l rows ds standing is =
           (if bytes_eq name (codes "master") then master_with (if b then ds else rows (codes "schedule")) e else e)) (sym apart) (sym (schedule-apart l is));
     }
 
--- the master with its schedule, where it stands in the frame without
+-- the master with its schedule, where it is in the frame without
 pub enters-master : (rows : List ℕ → Items) (ds : Items) (m : Data) → Enters (value_in rows) (value_in (with_rows rows (codes "schedule") ds)) (codes "master") (master_with ds m) m
 enters-master rows ds m = record { here = refl; others = λ name apart e. at name apart e (is_list name) refl }
   where
@@ -66,7 +66,7 @@ enters-master rows ds m = record { here = refl; others = λ name apart e. at nam
     at name apart e true is = ap (λ c. array (if c then ds else rows name)) (sym (no-schedule name is))
     at name apart e false is = ap (λ c. if c then master_with (rows (codes "schedule")) e else e) apart ∙ sym (ap (λ c. if c then master_with ds e else e) apart)
 
--- a schedule in its master, whatever stands there in the frame
+-- a schedule in its master, whatever is there in the frame
 pub enters-schedule : (old ds : Items) (standing : Data) → Enters (scheduled old) (scheduled ds) (codes "schedule") (array ds) standing
 enters-schedule old ds standing = record { here = refl; others = λ name apart e. ap (λ b. if b then array old else e) apart ∙ sym (ap (λ b. if b then array ds else e) apart) }
 

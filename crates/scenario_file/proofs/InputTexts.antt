@@ -36,7 +36,7 @@ preempt-text : (old new : List ℕ) (n : ℕ) → new ≡ (old ++ codes ",\"pree
 unfolding escape_byte
 preempt-text old new n e ms = two-pieces old new (codes ",\"preempt\":") (decimal n) (members_text true ms) e
 
--- ---- what stands before the round
+-- ---- what is before the round
 
 pub before-veh : (field : Field) (phase : ℕ) (on : Bool) (old new : List ℕ) → field ≡ Veh phase on → Leads old new (member (codes "on") (boolean on)) → Leads old new (before_round field)
 before-veh field phase on old new is flag ms = flag ms ∙ ap (λ (f : Field). old ++ members_text true (before_round f ms)) (sym is)
@@ -52,7 +52,7 @@ before-preempt field m n on old middle new is same flag e ms =
     ∙ ap (λ k. old ++ members_text true (member (codes "on") (boolean on) (member (codes "preempt") (number (unsigned k)) ms))) same
     ∙ ap (λ (f : Field). old ++ members_text true (before_round f ms)) (sym is)
 
--- ---- what stands behind the round
+-- ---- what follows the round
 
 veh-text : (old new whole : List ℕ) (n : ℕ) → new ≡ (old ++ codes ",\"veh\":") ++ decimal n → whole ≡ new ++ codes "}" → whole ≡ old ++ members_text true (member (codes "veh") (number (unsigned n)) no_members)
 unfolding escape_byte

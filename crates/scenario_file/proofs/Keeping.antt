@@ -15,7 +15,7 @@ pub some-passed : (P : Kept → Type 0) (b : Bool) (o : Option Kept) → IfSome 
 some-passed P b None over holds = tt
 some-passed P b (Some kept) over holds = subst P (sym over.1) (holds over.0)
 
--- ---- null for what was passed over
+-- ---- null for what was skipped
 
 sees : (passed : List ℕ → Data) (name : List ℕ) (d : Data) → as_null d ≡ None → seen passed name d ≡ d
 sees passed name null whole = absurd (cc)
@@ -50,7 +50,7 @@ pub standing-sorted : (d : Data) (kept : Kept) → KeptOf d kept → Sorted d �
 standing-sorted d Passed is sorted = tt
 standing-sorted d (Whole v) is sorted = subst Sorted (sym is.0) sorted
 
--- where no null stands, nothing was skipped
+-- where no null is, nothing was skipped
 pub all-seen : (passed : List ℕ → Data) (ms : Members) → has_null ms ≡ false → filled (seen passed) ms ≡ ms
 all-seen passed no_members none = refl
 all-seen passed (member name d ms) none = at (as_null d) refl (all-seen passed ms) none

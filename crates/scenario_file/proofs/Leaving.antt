@@ -1,4 +1,4 @@
--- Names that come again: the members without those of which more is to come, as members are put.
+-- Names that are repeated: the members without those of which more is to come, as members are put.
 use Rattle.std.proofs.Common.{◌≡◌, ◌≤◌, ℕ, suc, Bool, true, false, if◌then◌else◌, List, [], ◌∷◌, get_or, Option, Some, None, Ordering, Less, Equal, Greater, nat_cmp, bytes_eq, refl, sym, ap, ◌∙◌, subst, arith}
 use Rattle.std.proofs.lemmas.Slice.Eq.{bytes_eq-Decides}
 use Rattle.std.specs.Cmp.Lexicographic.{slice_cmp}
@@ -63,7 +63,7 @@ same-without old now same (member name d ms) =
     ap (λ rest. if old name then rest else member name d rest) (same-without old now same ms)
     ∙ ap (λ b. if b then without now ms else member name d (without now ms)) (same name)
 
--- where no more is to come, all stand
+-- if no more follows, all are there
 pub all-there : (gone : List ℕ → Bool) → ((name : List ℕ) → gone name ≡ false) → (ms : Members) → without gone ms ≡ ms
 all-there gone none no_members = refl
 all-there gone none (member name d ms) =

@@ -1,4 +1,4 @@
--- A text of digits alone is a whole number.
+-- A text of only digits is a whole number.
 use Rattle.std.proofs.Common.{◌≡◌, ℕ, ◌^◌, ◌<◌, List, get_or, true, false, if◌then◌else◌, nat_lt, ◌==◌, Option, Some, None, option_map, refl, sym, ap, ◌∙◌, lt-ltb}
 use Rattle.fast_float.specs.Text.{scan, digits_of, IsInteger}
 use Rattle.serde_json.specs.Data.{unsigned}

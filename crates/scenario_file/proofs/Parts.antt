@@ -42,7 +42,7 @@ own-inputs rows ms absent =
     at None none = sym (none refl)
     at (Some d) none = refl
 
--- they are put behind the others
+-- they are put after the others
 inputs-through : (rows : List ℕ → Items) (ms : Members) (more : Items) (standing : Data) → MembersSorted ms → (get_member (codes "inputs") ms ≡ None → rows (codes "inputs") ≡ no_items)
     → with_inputs more (object (with_lists rows ms)) ≡ object (with_lists (with_rows rows (codes "inputs") (both (rows (codes "inputs")) more)) (put (codes "inputs") standing ms))
 inputs-through rows ms more standing sorted absent =
@@ -75,7 +75,7 @@ inputs-texts texts text rows ds stand is = record {
 no-value : (v : Data) → Some v ≡ None → ⊥
 no-value v e = absurd (cc)
 
--- the parts are those of the scenario with more inputs, whatever stands for the inputs in the frame
+-- the parts are those of the scenario with more inputs, whatever represents the inputs in the frame
 pub more-inputs : (old new : ScenarioText) (d : Data) (more : Items) (standing : Data) (text : Written) (w : Writes old d)
     → members_view new.frame.entries ≡ put (codes "inputs") standing (members_view old.frame.entries)
     → MembersSorted (members_view new.frame.entries) → members_have_float (members_view new.frame.entries) ≡ false
@@ -245,7 +245,7 @@ pub some-found : {A : Type 0} (says : Data → A) (ds : Items) → nat_lt 0 (len
 some-found says no_items = refl
 some-found says (item d ds) = lt-ltb 0 (suc (length (each_of says ds))) (omega arith)
 
--- inputs that stand nowhere are none
+-- inputs that are nowhere are none
 pub none-held : (o : Option Data) (ds : Items) → IsHeld (codes "inputs") o ds → o ≡ None → ds ≡ no_items
 none-held None ds held e = held
 none-held (Some d) ds held e = absurd (cc)

@@ -28,7 +28,7 @@ put-again k d e (member l x ms) h = split (put-again k d e ms h) (slice_cmp nat_
     split rest Equal is = rw is refl
     split rest Greater is = rw is (ap (member l x) rest)
 
--- a schedule that is put into the master that stood at the name
+-- a schedule that is put into the master that was at the name
 pub master-put : (ms mid new : Members) (old : Option Data) (m listed v : Data) → old ≡ get_member (codes "master") ms → mid ≡ put (codes "master") null ms
     → m ≡ unwrap_or (either old (Some (object no_members))) null → v ≡ with_member (codes "schedule") listed m → new ≡ put (codes "master") v mid
     → new ≡ put (codes "master") (master_and listed (object ms)) ms
@@ -97,7 +97,7 @@ with-plain name v (string s) h k = k
 with-plain name v (array ds) h k = k
 with-plain name v (object ms) h k = plain-put name v ms h k
 
--- ---- what stands at a name is put there
+-- ---- what is at a name is put there
 
 none-below : (k : List ℕ) (ms : Members) (v : Data) → Below k ms → get_member k ms ≡ Some v → ⊥
 none-below k no_members v below e = absurd (cc)

@@ -1,4 +1,4 @@
--- The grammar's loops, begun anew in their midst: any number of turns that is enough gives the same.
+-- The grammar's loops, begun again in their midst: any number of turns that is enough gives the same.
 use Rattle.std.proofs.Common.{◌≡◌, ℕ, zero, suc, ◌≤◌, List, [], ◌∷◌, length, Option, Some, None, option_map, option_and_then, refl, sym, ap, ◌∙◌, arith}
 use Rattle.json.specs.Token.{Token}
 use Rattle.json.specs.Json as json
@@ -64,7 +64,7 @@ module _ (p : Parse Json) (takes : Takes p) where
   members-enough (suc n) zero ts a b = no-members (suc n) ts b ∙ sym (no-members zero ts b)
   members-enough (suc n) (suc m) ts a b = key-turn n m ts a b (members-enough n m) (read_key ts) refl
 
--- members that have a reading have one behind any others
+-- members that have a reading have one after any others
 behind-others : (js : json.Members) (old ms others : Members) → of_members js old ≡ Some ms → (all : Members) × (of_members js others ≡ Some all)
 behind-others json.no_members old ms others e = (others, refl)
 behind-others (json.member k j js) old ms others e = at (of_json j) (λ d. behind-others js (put k d old) ms (put k d others)) e

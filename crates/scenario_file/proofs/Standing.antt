@@ -1,4 +1,4 @@
--- The lists that were found stand where they did when another member is put into the frame.
+-- The lists that were found are where they did when another member is put into the frame.
 use Rattle.std.proofs.Common.{◌≡◌, ℕ, List, true, false, Bool, ◌||◌, Option, Some, unwrap_or, bytes_eq, codes, refl, sym, ◌∙◌, subst, arith}
 use Rattle.std.proofs.lemmas.Bool.{or_parts}
 use Rattle.std.proofs.lemmas.Slice.Eq.{bytes_eq-Decides}
@@ -22,7 +22,7 @@ apart k l other same =
     let clash : true ≡ false = sym both ∙ other in
     absurd (cc)
 
--- the master that stands, or one that says nothing
+-- the master that is there, or one that says nothing
 abbrev pub master_or_none : Option Data → Data
 master_or_none o = unwrap_or (either o (Some (object no_members))) null
 
@@ -46,7 +46,7 @@ stand-here found text last now frame ds holds is within far = record {
   held = subst (λ o. IsHeld (name_of found) o ds) (sym (get_member-put (name_of found) (stand_in (name_of found) ds) frame)) refl;
 }
 
--- another member than the master
+-- a different member from the master
 pub schedule-other : (found : Found) (text : Written) (frame : Members) (ds : Items) (k : List ℕ) (d : Data)
     → bytes_eq k (codes "master") ≡ false → ScheduleStands found text frame ds → ScheduleStands found text (put k d frame) ds
 schedule-other found text frame ds k d other stands = record {
@@ -106,7 +106,7 @@ pub same-list : (lists : Lists) (found known : Found) (frame : Members) (rows : 
     → AllStand lists (put (name_of known) (stand_in (name_of known) ds) frame) (with_rows rows (name_of known) ds) → AllStand lists (put (name_of found) (stand_in (name_of found) ds) frame) (with_rows rows (name_of found) ds)
 same-list lists found known frame rows ds is s = subst (λ (f : Found). AllStand lists (put (name_of f) (stand_in (name_of f) ds) frame) (with_rows rows (name_of f) ds)) (sym is) s
 
--- a list at the top is no schedule
+-- a list at the top is not a schedule
 pub no-such-list : (found known : Found) → found ≡ known → name_of found ≡ codes "schedule" → bytes_eq (name_of known) (codes "schedule") ≡ false → ⊥
 no-such-list found known is named apart-so =
     let same : name_of known ≡ codes "schedule" = subst (λ (f : Found). name_of f ≡ codes "schedule") is named in

@@ -20,7 +20,7 @@ use Rattle.scenario_read.proofs.Objects.{both-fields}
 use Rattle.scenario_file.specs.declared.found.Reach.{Reach}
 use Rattle.scenario_file.specs.Listing.{AsksWithin, AllOf}
 
--- ---- names that do not stand
+-- ---- names that aren't
 
 unequal : (a b : List ℕ) → (slice_cmp nat_cmp a b ≡ Equal → ⊥) → bytes_eq a b ≡ false
 unequal a b other = differ (bytes_eq a b) refl
@@ -29,7 +29,7 @@ unequal a b other = differ (bytes_eq a b) refl
     differ true e = absurd (other (ap (slice_cmp nat_cmp a) (sym ((bytes_eq-Decides a b).0 e)) ∙ tied_itself nat_list_cmp_total a))
     differ false e = refl
 
--- a name that does not stand in an object is not that of the first member, and does not stand behind it
+-- a name that isn't in an object is not that of the first member, and does not follow it
 not-first : (name l : List ℕ) (e : Data) (ms : Members) → get_member name (member l e ms) ≡ None → (bytes_eq name l ≡ false) × (get_member name ms ≡ None)
 not-first name l e ms none = at (slice_cmp nat_cmp name l) refl none
   where
@@ -56,7 +56,7 @@ pass : (b : Bool) (c : Cause) (xs ys : List Cause) → (if b then xs else (c ∷
 pass true c xs ys e rest = rest e
 pass false c xs ys e rest = absurd (cc)
 
--- where neither name of a drift stands, the other names are known without these
+-- if neither name of a drift is there, the other names are known without these
 fewer-names : (path : List Step) (ms : Members) → get_member gain.name ms ≡ None → get_member lose.name ms ≡ None
     → unknown_faults (names all_fields) path ms ≡ [] → unknown_faults (names plain_fields) path ms ≡ []
 fewer-names path no_members no-gain no-lose e = refl

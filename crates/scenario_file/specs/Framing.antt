@@ -1,5 +1,5 @@
--- The value of a scenario, from its frame: the same members, with the items of its lists where a list of empty objects, or an
--- empty one, stands. In the same way the master's schedule stands in its frame.
+-- The value of a scenario, from its frame: the same members, with the items of its lists where a list of empty objects,
+-- or an empty one, is. In the same way the master's schedule is in its frame.
 use Rattle.std.specs.Prelude.{ℕ, List, [], ◌≡◌, ◌||◌, Bool, true, false, codes, if◌then◌else◌, bytes_eq, Option, Some, None, Vec}
 use Rattle.std.specs.declared.alloc.Global.{Global}
 use Rattle.serde_json.specs.Events.{items_len}
@@ -43,7 +43,7 @@ filled_in fill (string s) = string s
 filled_in fill (array ds) = array ds
 filled_in fill (object ms) = object (filled fill ms)
 
--- what stands at a name of the master: these entries, or else this value
+-- what is at a name of the master: these entries, or else this value
 abbrev pub scheduled : Items → List ℕ → Data → Data
 scheduled ds name d = if bytes_eq name (codes "schedule") then array ds else d
 
@@ -51,7 +51,7 @@ scheduled ds name d = if bytes_eq name (codes "schedule") then array ds else d
 abbrev pub master_with : Items → Data → Data
 master_with ds = filled_in (scheduled ds)
 
--- what stands at a name: the items of its list, the master with its schedule, or else this value
+-- what is at a name: the items of its list, the master with its schedule, or else this value
 abbrev pub value_in : (List ℕ → Items) → List ℕ → Data → Data
 value_in rows name d =
     if is_list name then array (rows name) else
@@ -84,16 +84,16 @@ pub record TextsStand (texts : Texts) (rows : List ℕ → Items) : Type 0 where
 
 -- ---- what was found of lists
 
--- what stands in the frame for a list of these items: for the cabinets as many empty objects, else no items
+-- what is in the frame for a list of these items: for the cabinets as many empty objects, else no items
 abbrev pub stand_in : List ℕ → Items → Data
 stand_in name ds = array (if bytes_eq name (codes "cabinets") then blanks (items_len ds) else no_items)
 
--- the frame has what stands for the items of a list, or neither has the list
+-- the frame has what represents the items of a list, or neither has the list
 abbrev pub IsHeld : List ℕ → Option Data → Items → Type 0
 IsHeld name None ds = ds ≡ no_items
 IsHeld name (Some d) ds = d ≡ stand_in name ds
 
--- this was found for the list that may stand in the frame
+-- this was found for the list that may be in the frame
 pub record FramingStands (found : Found) (text : Written) (last : Reach) (frame : Members) (ds : Items) : Type 0 where
   pub holds : Holds found ds
   pub text_is : written text ≡ inner_text false ds
@@ -110,7 +110,7 @@ pub record MasterStands (schedule : Listed) (ms : Members) (ds : Items) : Type 0
   pub items : ListsItems schedule ds
   pub held : HoldsPlace (object ms) ds
 
--- this was found of the schedule of the master that may stand in the frame
+-- this was found of the schedule of the master that may be in the frame
 pub record ScheduleStands (found : Found) (text : Written) (frame : Members) (ds : Items) : Type 0 where
   pub holds : Holds found ds
   pub text_is : written text ≡ inner_text false ds
@@ -126,13 +126,13 @@ pub record AllStand (lists : Lists) (frame : Members) (rows : List ℕ → Items
   pub faults : FramingStands (Faults lists.events.faults) lists.texts.faults lists.last frame (rows (codes "faults"))
   pub schedule : ScheduleStands (Schedule lists.schedule) lists.texts.schedule frame (rows (codes "schedule"))
 
--- a value was read at a name, and what stands for it goes into the frame
+-- a value was read at a name, and what represents it goes into the frame
 abbrev pub Puts : Lists → Lists → List ℕ → Data → Data → Type 0
 Puts old new name d standing =
     (frame : Members) → (rows : List ℕ → Items) → AllStand old frame rows
     → (now : List ℕ → Items) × Enters (value_in rows) (value_in now) name d standing × AllStand new (put name standing frame) now
 
--- what stands for the whole run, with these cabinets and this schedule
+-- what represents the whole run, with these cabinets and this schedule
 abbrev pub setup_with : Setup → Vec Cabinet Global → Vec Entry Global → Setup
 setup_with setup cabinets schedule = record {
   rounds = setup.rounds;

@@ -8,17 +8,17 @@ use Rattle.scenario_file.specs.declared.written.Written.{Written}
 abbrev pub written : Written → List ℕ
 written text = take text.len text.part.now ++ string_bytes text.further
 
--- the compact text of the items, with commas between, and one before the first where something stands before
+-- the compact text of the items, with commas between, and one before the first where something is before
 abbrev pub inner_text : Bool → Items → List ℕ
 inner_text later no_items = []
 inner_text later (item d ds) = comma_if later ++ (compact_text d ++ inner_text true ds)
 
--- something stands before what follows the items: an item, or what stood before them
+-- something is before what follows the items: an item, or what was before them
 abbrev pub follows : Bool → Items → Bool
 follows later no_items = later
 follows later (item d ds) = true
 
--- so many empty objects
+-- that many empty objects
 abbrev pub blanks : ℕ → Items
 blanks zero = no_items
 blanks (suc n) = item (object no_members) (blanks n)

@@ -1,4 +1,5 @@
--- Names that come again among the members of an object: of which members more is to come, and what stands without these.
+-- Names that are repeated among the members of an object: of which members more is to come, and what is there without
+-- these.
 use Rattle.std.specs.Prelude.{ℕ, zero, suc, ◌≡◌, nat_lt, Bool, List, [], ◌∷◌, map, bytes_eq, get_or, if◌then◌else◌, Option, Some, None, string_bytes}
 use Rattle.serde_json.specs.Data.{Data, Items, Members, no_members, member, put}
 use Rattle.serde_json.specs.View.{members_view}
@@ -10,7 +11,7 @@ use Rattle.scenario_file.specs.declared.master.MasterReading.{MasterReading}
 use Rattle.scenario_file.specs.declared.top.Whole.{Whole}
 use Rattle.scenario_file.specs.declared.top.Reading.{Reading}
 
--- the place of a name among these, which stand from this place on
+-- the place of a name among these, which are from this place on
 abbrev pub place_from : ℕ → List (List ℕ) → List ℕ → Option ℕ
 place_from i [] name = None
 place_from i (first ∷ names) name = if bytes_eq name first then Some i else place_from (suc i) names name
@@ -36,7 +37,7 @@ pub record ReadSoFar (reading : Reading) (ms : Members) : Type 0 where
   pub stands : AllStand reading.whole.lists (members_view reading.whole.frame.entries) rows
   pub sorted : MembersSorted (members_view reading.whole.frame.entries)
 
--- a value was read at a name, and what stands for it was put into the frame
+-- a value was read at a name, and what represents it was put into the frame
 abbrev pub Grows : Whole → Whole → List ℕ → Data → Type 0
 Grows old new name d =
     (rows : List ℕ → Items) → AllStand old.lists (members_view old.frame.entries) rows → MembersSorted (members_view old.frame.entries)
@@ -50,7 +51,7 @@ pub record MasterReadSoFar (reading : MasterReading) (ms : Members) : Type 0 whe
   pub stands : MasterStands reading.master.schedule (members_view reading.master.members.entries) entries
   pub sorted : MembersSorted (members_view reading.master.members.entries)
 
--- a value was read at a name of a master, and what stands for it was put into the members
+-- a value was read at a name of a master, and what represents it was put into the members
 abbrev pub MasterGrows : Master → Master → List ℕ → Data → Type 0
 MasterGrows old new name d =
     (entries : Items) → MasterStands old.schedule (members_view old.members.entries) entries → MembersSorted (members_view old.members.entries)

@@ -19,7 +19,7 @@ use Rattle.scenario_file.specs.declared.found.Reach.{Reach}
 use Rattle.scenario_file.specs.declared.listed.Listed.{Listed}
 use Rattle.scenario_file.specs.Growing.{written, inner_text, follows}
 
--- where a list at the top stands, and the schedule of the master
+-- where a list at the top is, and the schedule of the master
 abbrev pub list_path : List ℕ → List Step
 list_path name = Named name ∷ []
 
@@ -48,7 +48,7 @@ any_fault = object_of (fault_shape 86400 64)
 abbrev pub any_entry : Kind
 any_entry = object_of entry_shape
 
--- the items of a list at this path are of the kind, at most so many, and these say the same
+-- the items of a list at this path are of the kind, at most that many, and these say the same
 pub record ListTold {A : Type 0} (path : List Step) (kind : Kind) (says : Data → A) (most : ℕ) (found : List A) (ds : Items) : Type 0 where
   pub causes : each kind path 0 ds ≡ []
   pub said : found ≡ each_of says ds
@@ -98,7 +98,7 @@ name_of (Frames found) = codes "frames"
 name_of (Faults found) = codes "faults"
 name_of (Schedule found) = codes "schedule"
 
--- a value is one more item behind those of the list: it is of the kind, and says this
+-- a value is one more item after those of the list: it is of the kind, and says this
 pub record Adds {A : Type 0} (path : List Step) (kind : Kind) (says : Data → A) (most : ℕ) (old new : List A) (d : Data) : Type 0 where
   pub causes : kind (then_item path (length old)) d ≡ []
   pub more : new ≡ old ++ says d ∷ []

@@ -1,4 +1,4 @@
--- An object around a scenario, as it is read name by name into parts of whatever kind.
+-- An object around a scenario, as it is read name by name into parts of any kind.
 use Rattle.serde_json.specs.Data.{Members}
 use Rattle.scenario_file.specs.declared.left.Left.{Left}
 use Rattle.scenario_file.specs.Left.{is_left, without}

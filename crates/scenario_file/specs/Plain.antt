@@ -8,7 +8,7 @@ use Rattle.scenario_file.specs.declared.plain.NumberName.{NumberName}
 use Rattle.scenario_file.specs.declared.plain.NumberName.TheVariants.{Cabinet, Ped as PedNumber, Preempt as PreemptNumber, Round, Veh as VehNumber}
 use Rattle.scenario_file.specs.declared.plain.Plain.{Plain}
 
--- the name at which a number stands
+-- the name at which a number is
 abbrev pub number_name : NumberName → List ℕ
 number_name Cabinet = codes "cabinet"
 number_name PedNumber = codes "ped"
@@ -26,7 +26,7 @@ abbrev pub flag_then : List ℕ → Option Bool → Members → Members
 flag_then name None ms = ms
 flag_then name (Some b) ms = member name (boolean b) ms
 
--- what stands at the names of an input, in the order of their bytes
+-- what is at the names of an input, in the order of their bytes
 abbrev pub plain_members : Plain → Members
 plain_members p =
     number_then (codes "cabinet") p.cabinet
@@ -39,7 +39,7 @@ before_round (Veh phase on) ms = member (codes "on") (boolean on) ms
 before_round (Ped phase) ms = member (codes "ped") (number (unsigned phase)) ms
 before_round (Preempt n on) ms = member (codes "on") (boolean on) (member (codes "preempt") (number (unsigned n)) ms)
 
--- what an input has behind its round
+-- what an input has after its round
 abbrev pub behind_round : Field → Members
 behind_round (Veh phase on) = member (codes "veh") (number (unsigned phase)) no_members
 behind_round (Ped phase) = no_members
@@ -51,7 +51,7 @@ input_members i =
     member (codes "cabinet") (number (unsigned i.cabinet))
     (before_round i.field (member (codes "round") (number (unsigned i.round)) (behind_round i.field)))
 
--- the members of a detector, a push button or a preempt input stand, and none of another
+-- the members of a detector, a push button or a preempt input are there, and none of another
 abbrev pub FieldStands : Field → Plain → Type 0
 FieldStands (Veh phase on) p = (p.veh ≡ Some phase) × (p.ped ≡ None) × (p.preempt ≡ None) × (p.on ≡ Some on)
 FieldStands (Ped phase) p = (p.veh ≡ None) × (p.ped ≡ Some phase) × (p.preempt ≡ None) × (p.on ≡ None)

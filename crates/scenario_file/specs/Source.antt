@@ -21,7 +21,7 @@ use Rattle.scenario_file.specs.declared.source.ScenarioText.{ScenarioText}
 use Rattle.scenario_file.specs.declared.source.Source.{Source}
 use Rattle.scenario_file.specs.declared.top.Whole.{Whole}
 
--- an object with a value at a name, in place of what stands there; anything else as it is
+-- an object with a value at a name, in place of what is there; anything else as it is
 abbrev pub with_member : List ℕ → Data → Data → Data
 with_member name d null = null
 with_member name d (boolean b) = boolean b
@@ -30,7 +30,7 @@ with_member name d (string s) = string s
 with_member name d (array ds) = array ds
 with_member name d (object ms) = object (put name d ms)
 
--- the inputs of a scenario, and more behind them
+-- the inputs of a scenario, and more after them
 abbrev pub inputs_and : Items → Data → Data
 inputs_and more d = array (both (items_in (held (inputs (round_count d) (cabinet_count d)) d)) more)
 

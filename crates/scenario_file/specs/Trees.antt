@@ -11,17 +11,17 @@ abbrev pub KeptOf : Data → Kept → Type 0
 KeptOf d Passed = Unit {0}
 KeptOf d (Whole v) = (view v ≡ d) × (as_null d ≡ None)
 
--- what stands among the members for a value of which this is kept
+-- what is among the members for a value of which this is kept
 abbrev pub standing : Kept → Data
 standing Passed = null
 standing (Whole v) = view v
 
--- null stands at one of the names
+-- null is at one of the names
 abbrev pub has_null : Members → Bool
 has_null no_members = false
 has_null (member name d ms) = is_some (as_null d) || has_null ms
 
--- the value at a name: where null stands, the one that was skipped
+-- the value at a name: where null is, the one that was skipped
 abbrev pub seen : (List ℕ → Data) → List ℕ → Data → Data
 seen passed name null = passed name
 seen passed name (boolean b) = boolean b

@@ -14,7 +14,7 @@ use crate::written::Written;
 use serde_json::{Map, Value};
 use std::alloc::Global;
 
-/// Adds a name in quotes with its colon, behind a comma where a member stands before.
+/// Adds a name in quotes with its colon, after a comma where a member is before.
 fn add_name(alloc: Global, text: &mut String, name: &str, later: bool) -> Option<()>
     ensures { IfSome result (λ _. string_bytes text.new ≡ ((string_bytes text.old ++ comma_if later) ++ quoted name.now) ++ 58 ∷ []) }
 {
@@ -36,7 +36,7 @@ fn add_list(text: &mut String, items: &Written<'_>) -> Option<()>
     Some(())
 }
 
-/// Adds what stands at a name of the master: its schedule, or another value.
+/// Adds what is at a name of the master: its schedule, or another value.
 fn add_setting(
     alloc: Global,
     text: &mut String,
@@ -91,7 +91,7 @@ fn add_master(
     }
 }
 
-/// Adds what stands at a name: a list that was read item by item, the master, or another value.
+/// Adds what is at a name: a list that was read item by item, the master, or another value.
 fn add_member(
     alloc: Global,
     text: &mut String,

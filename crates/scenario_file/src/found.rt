@@ -358,7 +358,7 @@ pub(crate) fn add_item(alloc: Global, object: &Value, found: &mut Found) -> Opti
     }
 }
 
-/// A list of so many empty objects.
+/// A list of that many empty objects.
 fn blanks(alloc: Global, count: usize) -> Option<Value>
     ensures { IfSome result (λ list. view list ≡ array (blanks count)) }
 {
@@ -372,8 +372,8 @@ fn blanks(alloc: Global, count: usize) -> Option<Value>
     Some(Value::Array(objects))
 }
 
-/// What stands for a list beside what isn't read item by item: a list of as many empty objects as there are cabinets, and an
-/// empty list for each other one.
+/// What represents a list in addition to what isn't read item by item: a list of as many empty objects as there are
+/// cabinets, and an empty list for each other one.
 pub(crate) fn stand_in(alloc: Global, found: &Found) -> Option<Value>
     ensures { IfSome result (λ list. (ds : Items) → Holds found.now ds → view list ≡ stand_in (name_of found.now) ds) }
 {

@@ -1,7 +1,8 @@
 //! The scenario file, read with little memory: the lists of the cabinets, of what happens in the rounds and of the
-//! master's schedule, which may be most of a file, are read item by item, and only the other values become a tree. What
-//! a scenario is, and what is refused, is as in `scenario_read`. A scenario inside another file is read so too, with
-//! its text in parts, which takes further inputs and another schedule; the object around it is read name by name.
+//! master's schedule, which may be most of a file, are read item by item, and only the other values become a tree.
+//! `scenario_read` defines what a scenario is and what is refused. A scenario inside another file is read in the same
+//! way, with its text in parts, so that further inputs and another schedule can be put in; the object around it is read
+//! name by name.
 #![tactic(auto)]
 
 mod compact;

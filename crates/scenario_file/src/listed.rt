@@ -25,7 +25,7 @@ pub(crate) struct Listed<'a> {
     pub last: Reach,
 }
 
-/// Reads one more item as a tree, nested at most so deep: what it says, and its text behind those before.
+/// Reads one more item as a tree, nested at most so deep: what it says, and its text after those before.
 fn tree_item(
     alloc: Global,
     reader: &mut Reader<'_>,

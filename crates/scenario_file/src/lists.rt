@@ -82,8 +82,8 @@ pub(crate) fn no_lists<'a>(alloc: Global) -> Lists<'a>
     }
 }
 
-/// Puts a list in place of what was found of it before: one of the top with what stands for it in the frame, the schedule with
-/// the master in which it stands.
+/// Puts a list in place of what was found of it before: one of the top with what represents it in the frame, the
+/// schedule with the master in which it is.
 pub(crate) fn put_list<'a>(lists: &mut Lists<'a>, listed: Listed<'a>)
     ensures top { is_list (name_of listed.entry.found) ≡ true → (frame : Members) → (rows : List ℕ → Items) → (ds : Items) → AllStand lists.old frame rows → ListsItems listed.entry ds
         → AllStand lists.new (put (name_of listed.entry.found) (stand_in (name_of listed.entry.found) ds) frame) (with_rows rows (name_of listed.entry.found) ds) }

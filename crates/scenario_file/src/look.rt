@@ -1,6 +1,6 @@
-//! Whether an input looks plain, told from its bytes before its tokens are read. This only chooses how it is read.
+//! Whether an input looks plain, decided from its bytes before its tokens are read. This only chooses how it is read.
 
-/// The bytes behind blanks.
+/// The bytes after blanks.
 fn behind_blanks(mut text: &[u8]) -> &[u8] {
     'blanks: while let [b' ' | b'\n' | b'\r' | b'\t', rest @ ..] = text {
         text = rest;
@@ -8,7 +8,7 @@ fn behind_blanks(mut text: &[u8]) -> &[u8] {
     text
 }
 
-/// The bytes behind digits, of which at most 19 are passed: each number of so many has 64 bits.
+/// The bytes after digits, of which at most 19 are passed: each number of that many has 64 bits.
 fn behind_digits(mut text: &[u8]) -> &[u8] {
     for _ in 0..19 {
         match text {
@@ -19,7 +19,7 @@ fn behind_digits(mut text: &[u8]) -> &[u8] {
     text
 }
 
-/// Whether a flag stands at the name of an input that is next, and the bytes behind the name.
+/// Whether a flag is at the name of an input that is next, and the bytes after the name.
 fn behind_name(text: &[u8]) -> Option<(bool, &[u8])> {
     match text {
         [b'r', b'o', b'u', b'n', b'd', b'"', rest @ ..] => Some((false, rest)),
@@ -32,7 +32,7 @@ fn behind_name(text: &[u8]) -> Option<(bool, &[u8])> {
     }
 }
 
-/// The bytes behind true or false.
+/// The bytes after true or false.
 fn behind_flag(text: &[u8]) -> Option<&[u8]> {
     match text {
         [b't', b'r', b'u', b'e', rest @ ..] => Some(rest),
@@ -41,7 +41,7 @@ fn behind_flag(text: &[u8]) -> Option<&[u8]> {
     }
 }
 
-/// The bytes behind a member and the blanks that follow it.
+/// The bytes after a member and the blanks that follow it.
 fn behind_member(text: &[u8]) -> Option<&[u8]> {
     let [b'"', name @ ..] = text else {
         return None;

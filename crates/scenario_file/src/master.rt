@@ -30,7 +30,7 @@ pub(crate) const MASTER_NAMES: [&str; 6] = [
     "schedule",
 ];
 
-/// A master but for its schedule, and this.
+/// A master except its schedule, and this.
 #[derive(Drop)]
 pub(crate) struct Master<'a> {
     pub members: Map<String, Value>,
@@ -56,14 +56,14 @@ fn no_schedule<'a>(alloc: Global) -> Listed<'a>
     }
 }
 
-/// An empty list, which stands for the items of a list.
+/// An empty list, which represents the items of a list.
 pub(crate) fn no_entries(alloc: Global) -> Value
     ensures { view result ≡ array no_items }
 {
     Value::Array(Vec::new(alloc))
 }
 
-/// What stands at the next name of the master, nested at most so deep. A schedule comes in place of the one before.
+/// What is at the next name of the master, nested at most so deep. A schedule comes in place of the one before.
 fn member_at<'a>(
     alloc: Global,
     reader: &mut Reader<'_>,
@@ -91,7 +91,7 @@ fn member_at<'a>(
     }
 }
 
-/// Reads what stands at the next name of the master, nested at most so deep, and puts what stands for it into the members.
+/// Reads what is at the next name of the master, nested at most so deep, and puts what represents it into the members.
 fn put_next<'a>(
     alloc: Global,
     reader: &mut Reader<'_>,
@@ -115,8 +115,8 @@ fn put_next<'a>(
     Some(())
 }
 
-/// Reads what stands at the next name of the master, nested at most so deep, where the name comes for the last time, or else passes
-/// over it.
+/// Reads what is at the next name of the master, nested at most so deep, where the name comes for the last time, or
+/// else skips it.
 fn next_member<'a>(
     alloc: Global,
     reader: &mut Reader<'_>,
@@ -152,8 +152,8 @@ fn nothing_read<'a>(alloc: Global, left: Left) -> MasterReading<'a>
     }
 }
 
-/// The members up to the brace that closes the master, each nested at most so deep. Of equal names the last counts; of those
-/// of which more is to come none is read. Nothing also where fewer come than were counted.
+/// The members up to the brace that closes the master, each nested at most so deep. Of equal names the last counts; of
+/// those of which more is to come none is read. Nothing even if fewer come than were counted.
 fn members_of<'a>(
     alloc: Global,
     reader: &mut Reader<'_>,
@@ -185,8 +185,8 @@ fn members_of<'a>(
     }
 }
 
-/// The master, where an object is the reader's next value, nested at most so deep, of whose names so many come. Nothing also where
-/// fewer come.
+/// The master, where an object is the reader's next value, nested at most so deep, whose names appear this often.
+/// Nothing even if fewer come.
 pub(crate) fn master_at<'a>(
     alloc: Global,
     reader: &mut Reader<'_>,

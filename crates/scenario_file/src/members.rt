@@ -31,7 +31,7 @@ pub fn put_named(
     }
 }
 
-/// What stands at a name, or else an object without names.
+/// What is at a name, or else an object without names.
 fn or_empty(alloc: Global, value: Option<Value>) -> Value
     ensures { view result ≡ unwrap_or (either (option_map view value) (Some (object no_members))) null }
 {

@@ -1,5 +1,5 @@
-//! A text that is one object around a scenario, read name by name into parts, of whatever kind these are. Of equal
-//! names the last counts; if they were counted beforehand, only the last is read.
+//! A text that is one object around a scenario, read name by name into parts of any kind. Of equal names the
+//! last counts; if they were counted beforehand, only the last is read.
 
 ghost use Rattle.std.specs.Prelude.{◌≡◌, ◌<◌, length, Some, IfSome, IsUtf8};
 ghost use Rattle.json.specs.Json.{value, members};
@@ -23,8 +23,8 @@ pub trait OuterParts<'a>: Drop {
     fn none(alloc: Global) -> Self
         ensures { stand result no_members };
 
-    /// Reads what stands at the next name of the file, in place of what was read there before. Of a scenario's own names so many come.
-    /// None, where it gives up; then nothing is said of the object.
+    /// Reads what is at the next name of the file, in place of what was read there before. Of a scenario's own names
+    /// that many come. None, where it gives up; then nothing is said of the object.
     fn put_next(
         &mut self,
         alloc: Global,
@@ -38,7 +38,7 @@ pub trait OuterParts<'a>: Drop {
         ensures shorter { IfSome result (λ _. length reader.new < length reader.old) };
 }
 
-/// Reads what stands at the next name, where the name comes for the last time, or else passes over it.
+/// Reads what is at the next name, where the name comes for the last time, or else skips it.
 fn next_member<'a, P: OuterParts<'a>>(
     alloc: Global,
     reader: &mut Reader<'_>,

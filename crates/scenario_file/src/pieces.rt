@@ -17,7 +17,7 @@ pub(crate) fn add(text: &mut String, piece: &str) -> Option<()>
     }
 }
 
-/// The comma between what stands before and what follows; nothing, where nothing stands before.
+/// The comma between what is before and what follows; nothing, where nothing is before.
 pub(crate) fn comma<'a>(later: bool) -> &'a str
     ensures { result.now ≡ comma_if later }
 {

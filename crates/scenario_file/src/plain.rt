@@ -11,7 +11,7 @@ use json::{Reader, Token};
 use scenario_data::Input;
 use sig_types::Field;
 
-/// The names of an input at which a number stands.
+/// The names of an input at which a number is.
 #[derive(Clone, Copy)]
 pub(crate) enum NumberName {
     Cabinet,
@@ -21,7 +21,7 @@ pub(crate) enum NumberName {
     Veh,
 }
 
-/// What stands at the names of an input, of equal names the last.
+/// What is at the names of an input, of equal names the last.
 #[derive(Clone, Copy)]
 pub(crate) struct Plain {
     cabinet: Option<u64>,
@@ -46,7 +46,7 @@ fn number_named(name: &str) -> Option<NumberName>
     }
 }
 
-/// The number that stands at a name, where it is of 1 to the most.
+/// The number that is at a name, where it is of 1 to the most.
 fn held(number: Option<u64>, most: u32) -> Option<u32>
     ensures { IfSome result (λ n. (number ≡ Some n) × (1 ≤ n) × (n ≤ most)) }
 {
@@ -100,7 +100,7 @@ impl Plain {
         Some(())
     }
 
-    /// The detector, the push button or the preempt input, where one stands alone.
+    /// The detector, the push button or the preempt input, if there is only one.
     fn field(&self) -> Option<Field>
         ensures { IfSome result (λ field. FieldStands field self.now × FieldFits field) }
     {
@@ -135,7 +135,7 @@ impl Plain {
     }
 }
 
-/// Reads what stands at a name, and puts it there.
+/// Reads what is at a name, and puts it there.
 fn put_next(reader: &mut Reader<'_>, name: &str, plain: &mut Plain) -> Option<()>
     ensures ok { IfSome result (λ _. (depth : ℕ) → (d : Data) × (converted of_json (value depth reader.old) ≡ Some (d, reader.new)) × (plain_members plain.new ≡ put name.now d (plain_members plain.old))) }
     ensures shorter { IfSome result (λ _. length reader.new < length reader.old) }

@@ -12,9 +12,9 @@ use crate::top::whole_of;
 use scenario_data::{ReadFail, Scenario};
 use std::alloc::Global;
 
-/// Reads a scenario that is right, list by list, without a tree of the whole, and of its members of equal names the last alone, where so
-/// many come; so also of those of its master, where names were counted. None where the text isn't right, where an earlier one that is
-/// read holds what none may hold, and where memory is wanting.
+/// Reads a scenario that is right, list by list, without a tree of the whole, and of its members of equal names only
+/// the last, where names are repeated; so also of those of its master, where names were counted. None where the text
+/// isn't right, where an earlier one that is read holds what none may hold, and if memory runs out.
 fn listed(alloc: Global, bytes: &[u8], left: Left) -> Option<Scenario>
     ensures scenario { IfSome result (λ s. IsScenario bytes.now (scenario_content s)) }
     ensures reads_back { IfSome result (λ s. IsScenario s.compact.items (scenario_content s)) }
@@ -24,7 +24,7 @@ fn listed(alloc: Global, bytes: &[u8], left: Left) -> Option<Scenario>
     Some(scenario)
 }
 
-/// Whether a name of the last master comes again. False also where that is no object, and where memory is wanting.
+/// Whether a name of the last master is repeated. False even if that is not an object, and if memory runs out.
 fn master_has_again(alloc: Global, bytes: &[u8]) -> bool {
     match Left::of_inner(alloc, bytes, "master", &MASTER_NAMES) {
         Some(left) => left.has_again(),
@@ -32,8 +32,8 @@ fn master_has_again(alloc: Global, bytes: &[u8]) -> bool {
     }
 }
 
-/// How often the names come in a text that is one object, where one of them comes again, or one of its last master; else nothing. Nothing
-/// also where memory is wanting.
+/// How often the names come in a text that is one object, where one of them is repeated, or one of its last master;
+/// else nothing. Nothing also if memory runs out.
 fn again(alloc: Global, bytes: &[u8]) -> Option<Left> {
     let left = Left::of(alloc, bytes, &SCENARIO_NAMES)?;
     if left.has_again() || master_has_again(alloc, bytes) {

@@ -169,7 +169,7 @@ fn entries_text<'a>(alloc: Global, entries: &Vec<Value>) -> Option<Written<'a>>
     Some(text)
 }
 
-/// Whether inputs stand among the members.
+/// Whether inputs are among the members.
 fn has_inputs(frame: &Map<String, Value>) -> bool
     ensures { result ≡ is_some (get_member (codes "inputs") (members_view frame.now.entries)) }
 {
@@ -194,7 +194,7 @@ impl<'a> ScenarioText<'a> {
         }
     }
 
-    /// Adds an input behind the inputs.
+    /// Adds an input after the inputs.
     pub fn add_input(&mut self, alloc: Global, input: &Value) -> Option<()>
         ensures { IfSome result (λ _. (d : Data) → has_float (view input.now) ≡ false → Writes self.old d
             → Writes self.new (with_inputs (item (view input.now) no_items) d)) }

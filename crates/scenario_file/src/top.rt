@@ -1,5 +1,5 @@
-//! The whole text of a scenario: an object whose lists are read item by item, and whose other members become a tree, with
-//! a list of empty objects where the cabinets stand, and an empty list where another list does.
+//! The whole text of a scenario: an object whose lists are read item by item, and whose other members become a tree,
+//! with a list of empty objects where the cabinets are, and an empty list where another list does.
 
 ghost use Rattle.std.specs.Prelude.{◌≡◌, ◌<◌, ◌≤◌, ℕ, List, true, length, Some, IfSome, IsUtf8, codes};
 ghost use Rattle.json.specs.Json.{value, members};
@@ -22,7 +22,7 @@ use scenario_cut::pass;
 use serde_json::{Map, Value};
 use std::alloc::Global;
 
-/// A scenario's value but for its lists, and these.
+/// A scenario's value except its lists, and these.
 #[derive(Drop)]
 pub(crate) struct Whole<'a> {
     pub frame: Map<String, Value>,
@@ -43,14 +43,14 @@ struct File<'a> {
     counts: bool,
 }
 
-/// How often the names come in the object that begins at this place of the bytes. None, where that can't be told.
+/// How often the names come in the object that begins at this place of the bytes. None, where that can't be known.
 fn master_left(alloc: Global, bytes: &[u8], place: usize) -> Option<Left> {
     let rest = bytes.get(place..)?;
     Left::of(alloc, rest, &MASTER_NAMES)
 }
 
-/// How often the names come in the master that begins at this place of the file. No names, where they are not to be counted, and
-/// where that can't be told.
+/// How often the names come in the master that begins at this place of the file. No names, where they are not to be
+/// counted, and where that can't be known.
 fn left_at(alloc: Global, file: File<'_>, place: usize) -> Left {
     if !file.counts {
         return Left::none(alloc);
@@ -61,7 +61,7 @@ fn left_at(alloc: Global, file: File<'_>, place: usize) -> Left {
     }
 }
 
-/// Reads a list that is nested at most so deep, and gives what stands for it.
+/// Reads a list that is nested at most so deep, and gives what represents it.
 fn list_member<'a>(
     alloc: Global,
     reader: &mut Reader<'_>,
@@ -83,7 +83,7 @@ fn list_member<'a>(
     Some(standing)
 }
 
-/// Reads the master, nested at most so deep, and gives what stands for it.
+/// Reads the master, nested at most so deep, and gives what represents it.
 fn master_member<'a>(
     alloc: Global,
     reader: &mut Reader<'_>,
@@ -103,7 +103,7 @@ fn master_member<'a>(
     Some(Value::Object(members))
 }
 
-/// Reads what stands at the next name, nested at most so deep, and gives what stands for it in the frame.
+/// Reads what is at the next name, nested at most so deep, and gives what represents it in the frame.
 fn member_at<'a>(
     alloc: Global,
     reader: &mut Reader<'_>,
@@ -132,7 +132,7 @@ fn member_at<'a>(
     }
 }
 
-/// Reads what stands at the next name, nested at most so deep, and puts what stands for it into the frame.
+/// Reads what is at the next name, nested at most so deep, and puts what represents it into the frame.
 fn put_next<'a>(
     alloc: Global,
     reader: &mut Reader<'_>,
@@ -156,7 +156,7 @@ fn put_next<'a>(
     Some(())
 }
 
-/// Reads what stands at the next name, nested at most so deep, where the name comes for the last time, or else passes over it.
+/// Reads what is at the next name, nested at most so deep, where the name comes for the last time, or else skips it.
 fn next_member<'a>(
     alloc: Global,
     reader: &mut Reader<'_>,
@@ -229,7 +229,7 @@ pub(crate) fn members_of<'a>(
     }
 }
 
-/// The parts of a text that is one object, of whose names so many come.
+/// The parts of a text that is one object, whose names appear this often.
 pub(crate) fn whole_of<'a>(alloc: Global, bytes: &'a [u8], left: Left) -> Option<Whole<'a>>
     ensures utf8 { IfSome result (λ _. IsUtf8 bytes.now) }
     ensures ok { IfSome result (λ whole. (rows : List ℕ → Items)

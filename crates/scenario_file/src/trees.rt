@@ -24,7 +24,7 @@ pub enum Level {
     Plain,
     /// An object. At this name what the next level says may open, and at no other name may anything.
     Members(&'static str),
-    /// An array of at most so many items. In it what the next level says may open.
+    /// An array of at most that many items. In it what the next level says may open.
     Items(usize),
 }
 
@@ -96,7 +96,7 @@ fn whole_number(text: &str) -> Option<Number>
     }
 }
 
-/// Puts a value at a name, in place of what stood there.
+/// Puts a value at a name, in place of what was there.
 pub(crate) fn put_member(members: &mut Map<String, Value>, name: String, value: Value) -> Option<()>
     ensures { IfSome result (λ _. members_view members.new.entries ≡ put (string_bytes name) (view value) (members_view members.old.entries)) }
 {
@@ -114,7 +114,7 @@ pub(crate) fn is_full(members: &Map<String, Value>) -> bool {
     members.len() >= MOST_NAMES
 }
 
-/// Whether a null stands in an object.
+/// Whether a null is in an object.
 fn has_null(members: &Map<String, Value>) -> bool
     ensures { result ≡ has_null (members_view members.now.entries) }
 {
@@ -126,7 +126,7 @@ fn has_null(members: &Map<String, Value>) -> bool
     false
 }
 
-/// What is kept of an object of these members, where null stands for each that was passed over.
+/// What is kept of an object of these members, where null represents each that was skipped.
 fn kept_object(members: Map<String, Value>) -> Kept
     ensures { (passed : List ℕ → Data) → KeptOf (object (filled (seen passed) (members_view members.entries))) result }
 {
@@ -150,7 +150,7 @@ fn kept_number(text: &str) -> Option<Kept>
     }
 }
 
-/// Puts what is kept of a value at a name, in place of what stood there: null for a value that was passed over.
+/// Puts what is kept of a value at a name, in place of what was there: null for a value that was skipped.
 fn put_kept(members: &mut Map<String, Value>, name: String, kept: Kept) -> Option<()>
     ensures { IfSome result (λ _. members_view members.new.entries ≡ put (string_bytes name) (standing kept) (members_view members.old.entries)) }
 {
@@ -167,8 +167,9 @@ fn passed_over(passed: bool) -> Option<Kept>
     if passed { Some(Kept::Passed) } else { None }
 }
 
-/// The next value of the reader, with arrays and objects nested at most so deep. None, where it has no place in a scenario or these
-/// levels do not allow it, where it has no reading, and where memory is wanting; where the reader stands then isn't said.
+/// The next value of the reader, with arrays and objects nested at most so deep. None, where it has no place in a
+/// scenario or these levels do not allow it, where it has no reading, and if memory runs out; where the reader is then
+/// isn't said.
 pub fn tree(alloc: Global, reader: &mut Reader<'_>, depth: usize, levels: &[Level]) -> Option<Value>
     ensures ok { IfSome result (λ v. converted of_json (value depth reader.old) ≡ Some (view v, reader.new)) }
     ensures shorter { IfSome result (λ _. length reader.new < length reader.old) }
@@ -180,8 +181,9 @@ pub fn tree(alloc: Global, reader: &mut Reader<'_>, depth: usize, levels: &[Leve
     }
 }
 
-/// What is kept of the next value of the reader, with arrays and objects nested at most so deep: all of it, or nothing where it has no
-/// place in a scenario or these levels do not allow it. None, where it has no reading or memory is wanting.
+/// What is kept of the next value of the reader, with arrays and objects nested at most so deep: all of it, or nothing
+/// where it has no place in a scenario or these levels do not allow it. None, where it has no reading or memory ran
+/// out.
 #[cycle(values)]
 fn tree_value(
     alloc: Global,
@@ -243,8 +245,8 @@ fn tree_array(
     }
 }
 
-/// What is kept of the items up to the bracket that closes an array: nothing, where they are more than so many or nothing is kept of
-/// one of them.
+/// What is kept of the items up to the bracket that closes an array: nothing, where they are more than that many or
+/// nothing is kept of one of them.
 #[cycle(values)]
 fn tree_items(
     alloc: Global,

@@ -57,7 +57,7 @@ impl<'a> Written<'a> {
         }
     }
 
-    /// Whether the file goes on with this piece behind the text so far.
+    /// Whether the file continues with this piece after the text so far.
     fn goes_on(&self, piece: &[u8]) -> bool
         ensures { IsTrue result → (string_bytes self.now.further ≡ []) × (take (length piece.now) (drop self.now.len self.now.part.now) ≡ piece.now) × (self.now.len + length piece.now ≤ length self.now.part.now) }
     {
@@ -75,7 +75,7 @@ impl<'a> Written<'a> {
         add(&mut self.further, piece)
     }
 
-    /// Adds the compact text of a value, behind a comma where one stands before.
+    /// Adds the compact text of a value, after a comma where one is before.
     pub(crate) fn add_value(&mut self, alloc: Global, value: &Value, later: bool) -> Option<()>
         ensures { IfSome result (λ _. has_float (view value.now) ≡ false → written self.new ≡ (written self.old ++ comma_if later) ++ compact_text (view value.now)) }
     {
@@ -108,7 +108,7 @@ impl<'a> Written<'a> {
         }
     }
 
-    /// Adds what stands between the cabinet and the round of an input.
+    /// Adds what is between the cabinet and the round of an input.
     fn add_before(&mut self, field: Field) -> Option<()>
         ensures { IfSome result (λ _. (ms : Members) → written self.new ++ members_text true ms ≡ written self.old ++ members_text true (before_round field ms)) }
     {
@@ -129,7 +129,7 @@ impl<'a> Written<'a> {
         }
     }
 
-    /// Adds what stands behind the round of an input.
+    /// Adds what follows the round of an input.
     fn add_behind(&mut self, field: Field) -> Option<()>
         ensures { IfSome result (λ _. written self.new ≡ written self.old ++ members_text true (behind_round field)) }
     {
@@ -150,7 +150,7 @@ impl<'a> Written<'a> {
         }
     }
 
-    /// Adds the compact text of an input, behind a comma where one stands before.
+    /// Adds the compact text of an input, after a comma where one is before.
     pub(crate) fn add_input(&mut self, input: Input, later: bool) -> Option<()>
         ensures { IfSome result (λ _. written self.new ≡ (written self.old ++ comma_if later) ++ compact_text (object (input_members input))) }
     {

@@ -47,7 +47,7 @@ items-floatless : (ds : Items) → ((place : ℕ) → place < items_len ds → h
 items-floatless no_items each = refl
 items-floatless (item d ds) each = rw (each 0 (omega arith)) (items-floatless ds (λ place within. each (suc place) (omega (arith, within))))
 
--- the numbers behind the word name a row or a column
+-- the numbers after the word name a row or a column
 abbrev NamedBy : Data → Cell → Type 0
 NamedBy d (Phase p c) = (p ≡ octet_at 1 d) × (c ≡ octet_at 2 d)
 NamedBy d (Sequence s r) = (s ≡ octet_at 1 d) × (r ≡ octet_at 2 d)
@@ -85,7 +85,7 @@ two-octets d p c a b k l sa sb e ip ic (suc zero) low high = from-octet p a (unw
 two-octets d p c a b k l sa sb e ip ic (suc (suc zero)) low high = from-octet c b (unwrap_or (at 2 d) null) ic (lies-above c b l (and_parts (lies p a k) (lies c b l) e).1) sb
 two-octets d p c a b k l sa sb e ip ic (suc (suc (suc n))) low high = absurd (omega (arith, high))
 
--- between the word and what is put there stand whole numbers
+-- between the word and what is put there are whole numbers
 numbers-floatless : (d : Data) (cell : Cell) → NamedBy d cell → is_cell cell ≡ true → (place : ℕ) → 1 ≤ place → place < value_place cell → has_float (unwrap_or (at place d) null) ≡ false
 numbers-floatless d (Phase p c) by there place low high = two-octets d p c 1 2 16 23 (omega arith) (omega arith) there by.0 by.1 place low high
 numbers-floatless d (Sequence s r) by there place low high = two-octets d s r 1 1 16 2 (omega arith) (omega arith) there by.0 by.1 place low high

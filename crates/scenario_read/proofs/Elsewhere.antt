@@ -133,7 +133,7 @@ unknown-elsewhere known path (member name d ms) = split (is_among known name) (u
     split true rest = rest
     split false rest = (tt, rest)
 
--- the alternatives of some shape are good, whichever stands
+-- the alternatives of some shape are good, whichever is there
 abbrev pub Chooses : List (List Field) → Type 0
 Chooses alternatives = (path : List Step) (d : Data) → IsPath path → AllElsewhere (alternative_faults path d alternatives)
 

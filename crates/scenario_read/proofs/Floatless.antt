@@ -1,4 +1,4 @@
--- A value without faults has no float: what stands at each name is a whole number, a word, a flag, a list of these or an
+-- A value without faults has no float: what is at each name is a whole number, a word, a flag, a list of these or an
 -- object of these.
 use Rattle.std.proofs.Common.{◌≡◌, ℕ, ◌+◌, Bool, true, false, ◌||◌, if◌then◌else◌, List, [], ◌∷◌, ◌++◌, filter, Option, Some, None, unwrap_or, bytes_eq, refl, sym, ap, ◌∙◌, subst}
 use Rattle.std.proofs.lemmas.Slice.Eq.{bytes_eq-Decides}
@@ -54,7 +54,7 @@ hex-floatless most path (string s) sorted e = refl
 hex-floatless most path (array ds) sorted e = absurd (cc)
 hex-floatless most path (object ms) sorted e = absurd (cc)
 
--- what else may be at fault behind a kind's own faults
+-- what else may be at fault after a kind's own faults
 pub more-floatless : (kind : Kind) (more : List Step → Data → List Cause) → Floatless kind → Floatless (λ path d. kind path d ++ more path d)
 more-floatless kind more good path d sorted e = good path d sorted (none-left (kind path d) (more path d) e).0
 
@@ -119,7 +119,7 @@ both-floatless : (xs ys : List Field) → AllFloatless xs → AllFloatless ys �
 both-floatless [] ys a b = b
 both-floatless (f ∷ xs) ys a b = (a.0, both-floatless xs ys a.1 b)
 
--- what stands at a known name has no float
+-- what is at a known name has no float
 at-known : (path : List Step) (d : Data) (fields : List Field) → AllFloatless fields → fields_faults path d fields ≡ []
     → (name : List ℕ) (v : Data) → is_among (names fields) name ≡ true → get name d ≡ Some v → Sorted v → has_float v ≡ false
 at-known path d [] good e name v known found sorted = absurd (cc)

@@ -1,4 +1,4 @@
--- Lists of faults of which none stands.
+-- Lists of faults of which none is there.
 use Rattle.std.proofs.Common.{◌≡◌, List, [], ◌∷◌, ◌++◌, refl}
 use Rattle.serde_json.specs.Data.{Data}
 use Rattle.scenario_data.specs.Causes.{Cause}

@@ -1,4 +1,5 @@
--- An object whose names are known has the faults of its fields; and the first fault of one field behind others without any.
+-- An object whose names are known has the faults of its fields; and the first fault of one field after others without
+-- any.
 use Rattle.std.proofs.Common.{◌≡◌, ℕ, List, [], ◌∷◌, ◌++◌, refl, sym, ap, ◌∙◌, subst, append_assoc}
 use Rattle.serde_json.specs.Data.{Data, null, boolean, number, string, array, object}
 use Rattle.scenario_data.specs.declared.refusal.ReadFail.{ReadFail}
@@ -24,7 +25,7 @@ pub both-fields : (path : List Step) (d : Data) (xs ys : List Field) → fields_
 both-fields path d [] ys = refl
 both-fields path d (f ∷ xs) ys = ap (λ causes. field_faults path d f ++ causes) (both-fields path d xs ys) ∙ sym (append_assoc (field_faults path d f) (fields_faults path d xs) (fields_faults path d ys))
 
--- the faults of a scenario whose names are known: of its version, of what stands for the whole run, of its rounds
+-- the faults of a scenario whose names are known: of its version, of what represents the whole run, of its rounds
 pub three-parts : (d : Data) → names_faults (names (known_fields (scenario_shape (version_number d) (round_count d) (cabinet_count d)) d)) [] d ≡ []
     → named_faults d ≡ (field_faults [] d version ++ (fields_faults [] d (setup_fields (version_number d)) ++ fields_faults [] d (event_fields (round_count d) (cabinet_count d)))) ++ []
 three-parts d e =

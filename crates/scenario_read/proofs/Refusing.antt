@@ -35,7 +35,7 @@ pub refuses_more : (fail : ReadFail) (causes more : List Cause) → Refuses fail
 refuses_more (Refused refusal) causes more h = names-more refusal causes more h
 refuses_more NoMemory causes more h = tt
 
--- and so is the first fault behind what has none
+-- and so is the first fault after what has none
 pub refuses_behind : (fail : ReadFail) (causes more : List Cause) → causes ≡ [] → Refuses fail more → Refuses fail (causes ++ more)
 refuses_behind fail causes more none h = rw none h
 

@@ -33,7 +33,7 @@ octet_of (object ms) = 0
 abbrev pub octet_at : ℕ → Data → ℕ
 octet_at place d = octet_of (unwrap_or (at place d) null)
 
--- the cell that a word and the numbers behind it name
+-- the cell that a word and the numbers after it name
 abbrev pub named_cell : List ℕ → Data → Option Cell
 named_cell word d =
     if bytes_eq word (codes "phase") then Some (Phase (octet_at 1 d) (octet_at 2 d)) else
@@ -47,7 +47,7 @@ named_cell word d =
 abbrev pub listed_cell : Data → Option Cell
 listed_cell d = option_and_then (λ word. named_cell word d) (option_and_then as_str (at 0 d))
 
--- the place of what is put there: behind the word and the cell's numbers
+-- the place of what is put there: after the word and the cell's numbers
 abbrev pub value_place : Cell → ℕ
 value_place (Phase p c) = 3
 value_place (Sequence s r) = 3
@@ -69,7 +69,7 @@ abbrev pub decoded_fits : ℕ → Result (List ℕ) FromHexError → Fit
 decoded_fits most (Ok octets) = within 0 most (length octets)
 decoded_fits most (Err e) = Wrong
 
--- at most so many octets, each as two hexadecimal digits
+-- at most that many octets, each as two hexadecimal digits
 abbrev pub octets_fits : ℕ → Data → Fit
 octets_fits most null = Wrong
 octets_fits most (boolean b) = Wrong
@@ -78,7 +78,7 @@ octets_fits most (string s) = decoded_fits most (decode_of s)
 octets_fits most (array ds) = Wrong
 octets_fits most (object ms) = Wrong
 
--- a text of two hexadecimal digits for each of at most so many octets
+-- a text of two hexadecimal digits for each of at most that many octets
 abbrev pub hex_text : ℕ → Kind
 hex_text most path d = fault_at path (octets_fits most d)
 

@@ -1,4 +1,4 @@
--- The scenario of a value: at each name what stands there, or else the default.
+-- The scenario of a value: at each name what is there, or else the default.
 use Rattle.std.specs.Prelude.{ℕ, ◌==◌, Bool, false, if◌then◌else◌, List, [], ◌∷◌, length, bytes_eq, codes}
 use Rattle.serde_json.specs.Data.{Data, null, boolean, number, string, array, object, Items, no_items, item}
 use Rattle.serde_json.specs.Written.{compact_text}
@@ -76,7 +76,7 @@ fault_kind_of d =
     if bytes_eq (text_of d) (codes "late") then Late else
     if bytes_eq (text_of d) (codes "flip") then Flip else Cut
 
--- a clock drifts in version 2 alone
+-- a clock drifts only in version 2
 abbrev pub drift_at : ℕ → Name → Data → ℕ
 drift_at version f d = if version == 2 then number_at f d else 0
 
@@ -113,7 +113,7 @@ field_of d =
     if stands d (veh ∷ on ∷ []) then Veh (number_at veh d) (flag_of (held on d)) else
     if stands d (ped ∷ []) then Ped (number_at ped d) else Preempt (number_at preempt d) (flag_of (held on d))
 
--- the input of an object; the numbers of rounds and cabinets bound what may stand there, not what it says
+-- the input of an object; the numbers of rounds and cabinets bound what is allowed there, not what it says
 abbrev pub input_of : ℕ → ℕ → Data → Input
 input_of round_count cabinet_count d = record {
   round = number_at (round round_count) d;

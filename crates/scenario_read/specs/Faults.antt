@@ -28,7 +28,7 @@ all_table_faults cabinet (c ∷ more) = table_faults cabinet c ++ all_table_faul
 abbrev pub product_faults : ℕ → List Cause
 product_faults ticks = if nat_le ticks 55296000 then [] else Limit (codes "rounds") ∷ []
 
--- the faults of the names and what stands there
+-- the faults of the names and what is there
 abbrev pub named_faults : Data → List Cause
 named_faults d = object_of (scenario_shape (version_number d) (round_count d) (cabinet_count d)) [] d
 

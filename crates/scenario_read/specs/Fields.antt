@@ -1,4 +1,4 @@
--- Objects of named fields: which names may stand there, and the faults of an object.
+-- Objects of named fields: which names may be there, and the faults of an object.
 use Rattle.std.specs.Prelude.{ℕ, Bool, false, if◌then◌else◌, List, [], ◌∷◌, ◌++◌, filter, Option, Some, None, is_some, unwrap_or}
 use Rattle.serde_json.specs.Data.{Data, null, boolean, number, string, array, object, Members, no_members, member}
 use Rattle.serde_json.specs.Find.{get}
@@ -6,13 +6,13 @@ use Rattle.scenario_data.specs.Causes.{Cause, Field as FieldCause}
 use Rattle.scenario_read.specs.Paths.{Step, path_text, then_named}
 use Rattle.scenario_read.specs.Kinds.{Wrong, Kind, fault_at, is_among}
 
--- a name, what may stand there, and what counts where nothing does
+-- a name, what is allowed there, and what counts where nothing does
 pub record Field : Type 0 where
   pub name : List ℕ
   pub kind : Kind
   pub default : Option Data
 
--- a field that must stand
+-- a field that must be
 abbrev pub needed : List ℕ → Kind → Field
 needed name kind = record { name = name; kind = kind; default = None }
 
@@ -20,7 +20,7 @@ needed name kind = record { name = name; kind = kind; default = None }
 abbrev pub optional : List ℕ → Kind → Data → Field
 optional name kind default = record { name = name; kind = kind; default = Some default }
 
--- an object: its fields in order, and then lists of fields of which exactly one list stands
+-- an object: its fields in order, and then lists of fields of which exactly one list is there
 pub record Shape : Type 0 where
   pub fields : List Field
   pub alternatives : List (List Field)
@@ -30,7 +30,7 @@ abbrev pub either : Option Data → Option Data → Option Data
 either (Some d) default = Some d
 either None default = default
 
--- what stands at a field of an object, or else its default
+-- what is at a field of an object, or else its default
 abbrev pub value_of : Field → Data → Option Data
 value_of f d = either (get f.name d) f.default
 
@@ -38,7 +38,7 @@ value_of f d = either (get f.name d) f.default
 abbrev pub held : Field → Data → Data
 held f d = unwrap_or (value_of f d) null
 
--- the faults of what stands there; nothing at all is of the wrong kind
+-- the faults of what is there; nothing at all is of the wrong kind
 abbrev pub faults_of : Kind → List Step → Option Data → List Cause
 faults_of kind path None = fault_at path Wrong
 faults_of kind path (Some d) = kind path d
@@ -52,7 +52,7 @@ abbrev pub fields_faults : List Step → Data → List Field → List Cause
 fields_faults path d [] = []
 fields_faults path d (f ∷ fields) = field_faults path d f ++ fields_faults path d fields
 
--- an alternative stands where its first name does
+-- an alternative is where its first name does
 abbrev pub stands : Data → List Field → Bool
 stands d [] = false
 stands d (f ∷ fields) = is_some (get f.name d)
@@ -63,7 +63,7 @@ only_one [] = None
 only_one (a ∷ []) = Some a
 only_one (a ∷ b ∷ more) = None
 
--- the alternative that stands alone, if one does
+-- the alternative that is the only one, if one does
 abbrev pub chosen : Shape → Data → Option (List Field)
 chosen shape d = only_one (filter (stands d) shape.alternatives)
 
@@ -72,7 +72,7 @@ abbrev pub all_of : List (List Field) → List Field
 all_of [] = []
 all_of (fields ∷ more) = fields ++ all_of more
 
--- where one alternative stands alone, the names of the others aren't known
+-- where one alternative is the only one, the names of the others aren't known
 abbrev pub known_fields : Shape → Data → List Field
 known_fields shape d = shape.fields ++ unwrap_or (chosen shape d) (all_of shape.alternatives)
 
@@ -88,7 +88,7 @@ unknown_faults known path (member name d ms) =
     if is_among known name then unknown_faults known path ms
     else FieldCause (path_text (then_named path name)) ∷ unknown_faults known path ms
 
--- the faults of the alternative that stands alone; where none does, the object itself is at fault
+-- the faults of the alternative that is the only one; where none does, the object itself is at fault
 abbrev pub chosen_faults : List Step → Data → Option (List Field) → List Cause
 chosen_faults path d None = fault_at path Wrong
 chosen_faults path d (Some fields) = fields_faults path d fields

@@ -5,7 +5,7 @@ use Rattle.serde_json.specs.Events.{items_len}
 use Rattle.scenario_data.specs.Causes.{Cause, Field, Limit}
 use Rattle.scenario_read.specs.Paths.{Step, path_text, then_item}
 
--- a value is one of those that may stand there, or of the wrong kind, or beyond the range
+-- a value is one of those that is allowed there, or of the wrong kind, or beyond the range
 pub data Fit : Type 0 where
   Fits : Fit
   Wrong : Fit
@@ -25,7 +25,7 @@ fault_at path Beyond = Limit (path_text path) ∷ []
 abbrev pub within : ℕ → ℕ → ℕ → Fit
 within least most n = if nat_le least n && nat_le n most then Fits else Beyond
 
--- a number below 0 is beyond every range, and a float is no whole number
+-- a number below 0 is beyond every range, and a float is not a whole number
 abbrev pub number_fits : ℕ → ℕ → Num → Fit
 number_fits least most (unsigned n) = within least most n
 number_fits least most (negative z) = Beyond
@@ -117,7 +117,7 @@ abbrev pub each : Kind → List Step → ℕ → Items → List Cause
 each kind path place no_items = []
 each kind path place (item d ds) = kind (then_item path place) d ++ each kind path (place + 1) ds
 
--- a list of least to most items fits, whatever its items are
+-- a list of least to most items fits, for any items
 abbrev pub list_fits : ℕ → ℕ → Data → Fit
 list_fits least most null = Wrong
 list_fits least most (boolean b) = Wrong

@@ -1,4 +1,4 @@
--- Where a value stands in a scenario: names of members and places in lists, from the top; and how that is written.
+-- Where a value is in a scenario: names of members and places in lists, from the top; and how that is written.
 use Rattle.std.specs.Prelude.{ℕ, List, [], ◌∷◌, ◌++◌, codes, decimal}
 
 -- places are counted from 0
@@ -12,7 +12,7 @@ further_text [] = []
 further_text (Named name ∷ steps) = codes "." ++ (name ++ further_text steps)
 further_text (Item place ∷ steps) = codes "[" ++ (decimal place ++ (codes "]" ++ further_text steps))
 
--- a name at the top stands bare, and the whole value is a dot
+-- a name at the top is bare, and the whole value is a dot
 abbrev pub path_text : List Step → List ℕ
 path_text [] = codes "."
 path_text (Named name ∷ steps) = name ++ further_text steps

@@ -25,7 +25,7 @@ use Rattle.scenario_read.specs.Table.{rounds, ticks, community, cabinets, master
 use Rattle.scenario_read.specs.Content.{number_at, text_of, list_in, cabinet_of, master_of, input_of, load_of, priority_of, frame_of, fault_of, events_at, version_number, round_count, cabinet_count}
 use Rattle.scenario_read.specs.Faults.{first_cause}
 
--- the name at which a list stands
+-- the name at which a list is
 abbrev pub list_name : TopList → List ℕ
 list_name Cabinets = codes "cabinets"
 list_name Inputs = codes "inputs"
@@ -67,7 +67,7 @@ abbrev pub Answers : {A : Type 0} → Result A ReadFail → List Cause → (A �
 Answers (Ok a) causes Is = (causes ≡ []) × Is a
 Answers (Err fail) causes Is = Refuses fail causes
 
--- the faults of an object of names that aren't known, and of what is no object
+-- the faults of an object of names that aren't known, and of what is not an object
 abbrev pub names_faults : List (List ℕ) → List Step → Data → List Cause
 names_faults known path null = fault_at path Wrong
 names_faults known path (boolean b) = fault_at path Wrong
@@ -80,7 +80,7 @@ names_faults known path (object ms) = unknown_faults known path ms
 abbrev pub load_cabinets : List LoadItem → List ℕ
 load_cabinets loads = map (λ load. load.cabinet) loads
 
--- what the names say that stand for the whole run, in a scenario of this version
+-- what the names say that represent the whole run, in a scenario of this version
 pub record SaysSetup (setup : Setup) (version : ℕ) (d : Data) : Type 0 where
   pub rounds : setup.rounds ≡ number_at rounds d
   pub ticks : setup.ticks ≡ number_at ticks d
@@ -88,7 +88,7 @@ pub record SaysSetup (setup : Setup) (version : ℕ) (d : Data) : Type 0 where
   pub cabinets : map cabinet_content setup.cabinets.items ≡ list_in (cabinet_of version) (held (cabinets version) d)
   pub master : master_content setup.master ≡ master_of (held master d)
 
--- what the names say of what happens in so many rounds at so many cabinets
+-- what the names say of what happens in that many rounds at that many cabinets
 pub record SaysEvents (events : Events) (rounds cabinets : ℕ) (d : Data) : Type 0 where
   pub inputs : events.inputs.items ≡ events_at inputs input_of rounds cabinets d
   pub loads : map load_content events.loads.items ≡ events_at loads load_of rounds cabinets d

@@ -1,4 +1,5 @@
--- The table of a scenario's names: for each object its fields in order, each with what may stand there and its default.
+-- The table of a scenario's names: for each object its fields in order, each with what is allowed there and its
+-- default.
 use Rattle.std.specs.Prelude.{ℕ, ◌+◌, ◌==◌, ◌&&◌, nat_lt, Bool, false, if◌then◌else◌, List, [], ◌∷◌, ◌++◌, codes}
 use Rattle.serde_json.specs.Data.{unsigned, number, Data, string, array, object, no_items, no_members}
 use Rattle.sig_types.specs.declared.notes.Request.{Request}
@@ -10,7 +11,7 @@ use Rattle.scenario_read.specs.Kinds.{Fits, Wrong, Beyond, Kind, fault_at, whole
 use Rattle.scenario_read.specs.Fields.{Field, needed, optional, Shape, held, stands, object_of}
 use Rattle.scenario_read.specs.CellLists.{cell, hex_text, whole_of}
 
--- a whole number that must stand at a name, and one that may be absent
+-- a whole number that must be at a name, and one that may be absent
 abbrev pub needed_whole : List ℕ → ℕ → ℕ → Field
 needed_whole name least most = needed name (whole least most)
 
@@ -43,7 +44,7 @@ gain = optional (codes "gain") (rare 12000 864000) (number (unsigned 0))
 abbrev pub lose : Field
 lose = optional (codes "lose") (rare 12000 864000) (number (unsigned 0))
 
--- the names by which the clock of a cabinet drifts are of version 2 alone
+-- the names by which the clock of a cabinet drifts are only of version 2
 abbrev pub drift_fields : ℕ → List Field
 drift_fields version = if version == 2 then gain ∷ lose ∷ [] else []
 
@@ -99,7 +100,7 @@ round rounds = needed_whole (codes "round") 1 rounds
 abbrev pub cabinet_number : ℕ → Field
 cabinet_number cabinets = needed_whole (codes "cabinet") 1 cabinets
 
--- an input: a vehicle detector goes on or off, a push button is pressed, or a preempt input goes on or off
+-- an input: a vehicle detector turns on or off, a push button is pressed, or a preempt input turns on or off
 abbrev pub veh : Field
 veh = needed_whole (codes "veh") 1 16
 
@@ -128,7 +129,7 @@ load_shape rounds cabinets = record { fields = round rounds ∷ cabinet_number c
 abbrev pub load_cabinet : ℕ → Data → ℕ
 load_cabinet cabinets d = number_at (cabinet_number cabinets) d
 
--- how often a number stands in a list
+-- how often a number is in a list
 abbrev pub count_of : ℕ → List ℕ → ℕ
 count_of n [] = 0
 count_of n (m ∷ more) = (if m == n then 1 else 0) + count_of n more
@@ -256,7 +257,7 @@ cabinets version = needed (codes "cabinets") (list_of 1 64 (cabinet version))
 abbrev pub master : Field
 master = optional (codes "master") (object_of master_shape) (object no_members)
 
--- a list of at most so many; none where it is absent
+-- a list of at most that many; none where it is absent
 abbrev pub optional_list : List ℕ → ℕ → Kind → Field
 optional_list name most kind = optional name (list_of 0 most kind) (array no_items)
 
@@ -275,7 +276,7 @@ frames rounds cabinets = optional_list (codes "frames") 100000 (object_of (frame
 abbrev pub link_faults : ℕ → ℕ → Field
 link_faults rounds cabinets = optional_list (codes "faults") 100000 (object_of (fault_shape rounds cabinets))
 
--- the names behind the version, of what stands for the whole run
+-- the names after the version, of what represents the whole run
 abbrev pub setup_fields : ℕ → List Field
 setup_fields version = rounds ∷ ticks ∷ community ∷ cabinets version ∷ master ∷ []
 

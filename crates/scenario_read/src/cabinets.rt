@@ -43,7 +43,7 @@ fn cells_at(
     }
 }
 
-/// Refuses what is no object, and the least name that a cabinet does not have in a scenario of this version.
+/// Refuses what is not an object, and the least name that a cabinet does not have in a scenario of this version.
 fn known_in_cabinet(
     alloc: Global,
     object: &Value,

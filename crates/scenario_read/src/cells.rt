@@ -44,7 +44,7 @@ fn octet_at(list: &Value, place: usize) -> u8
     }
 }
 
-/// The cell that a word and the numbers behind it name.
+/// The cell that a word and the numbers after it name.
 fn named_cell(word: &str, list: &Value) -> Option<Cell>
     ensures { result ≡ named_cell word.now (view list.now) }
 {
@@ -91,7 +91,7 @@ fn listed_cell(list: &Value) -> Option<Cell>
     }
 }
 
-/// Where in its list the value of a cell stands.
+/// Where in its list the value of a cell is.
 fn value_place(cell: Cell) -> usize
     ensures { result ≡ value_place cell }
 {

@@ -25,7 +25,7 @@ pub struct Events {
     pub faults: Vec<Fault>,
 }
 
-/// What happens in so many rounds at so many cabinets.
+/// What happens in that many rounds at that many cabinets.
 pub(crate) fn events_in(
     alloc: Global,
     object: &Value,

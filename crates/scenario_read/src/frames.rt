@@ -1,4 +1,4 @@
-//! The frames that reach cabinets as they stand: each on a stream, in a round, as its octets.
+//! The frames that reach cabinets as they are: each on a stream, in a round, as its octets.
 
 ghost use Rattle.std.specs.Prelude.{◌≡◌, ◌≤◌, map, codes, length};
 ghost use Rattle.serde_json.specs.View.{view, items_view};

@@ -18,8 +18,8 @@ use serde_json::Value;
 use sig_types::Field;
 use std::alloc::Global;
 
-/// Refuses what is no object, and the least name that an input does not have: where a detector, a button or a preempt input
-/// stands alone, the names of the others are not known.
+/// Refuses what is not an object, and the least name that an input does not have: where a detector, a button or a
+/// preempt input is the only one, the names of the others are not known.
 fn known_in_input(
     alloc: Global,
     object: &Value,
@@ -53,7 +53,7 @@ fn known_in_input(
     }
 }
 
-/// A vehicle detector that goes on or off.
+/// A vehicle detector that turns on or off.
 fn detector_in(alloc: Global, object: &Value, place: Place) -> Result<Field, ReadFail>
     ensures { Answers result (fields_faults (steps_of place) (view object.now) (veh ∷ on ∷ []))
         (λ field. field ≡ Field.Veh (number_at veh (view object.now)) (flag_of (held on (view object.now)))) }
@@ -75,7 +75,7 @@ fn button_in(alloc: Global, object: &Value, place: Place) -> Result<Field, ReadF
     Ok(Field::Ped { phase: phase as u8 })
 }
 
-/// A preempt input that goes on or off.
+/// A preempt input that turns on or off.
 fn preempt_in(alloc: Global, object: &Value, place: Place) -> Result<Field, ReadFail>
     ensures { Answers result (fields_faults (steps_of place) (view object.now) (preempt ∷ on ∷ []))
         (λ field. field ≡ Field.Preempt (number_at preempt (view object.now)) (flag_of (held on (view object.now)))) }

@@ -39,7 +39,7 @@ fn cells_at(alloc: Global, object: &Value, load: usize) -> Result<Vec<(Cell, Cel
     }
 }
 
-/// A load, however many of its cabinet stand before.
+/// A load, however many of its cabinet are before.
 fn uncounted_in(
     alloc: Global,
     object: &Value,
@@ -88,7 +88,7 @@ fn counted(alloc: Global, place: Place, found: &Vec<LoadItem>, cabinet: u32) -> 
     }
 }
 
-/// One load behind those found, of a scenario with this number of rounds and cabinets.
+/// One load after those found, of a scenario with this number of rounds and cabinets.
 pub fn load_in(
     alloc: Global,
     object: &Value,

@@ -51,7 +51,7 @@ fn entries_in(alloc: Global, items: &Vec<Value>) -> Result<Vec<Entry>, ReadFail>
     Ok(found)
 }
 
-/// The schedule of a master; empty where none is said.
+/// The schedule of a master; empty by default.
 #[tactic(auto, using(crate::proofs::Refusing::refuses_more))]
 fn schedule_at(alloc: Global, object: &Value) -> Result<Vec<Entry>, ReadFail>
     ensures { Answers result (field_faults (steps_of Place.Master) (view object.now) schedule)

@@ -72,7 +72,7 @@ pub fn whole_at(
     }
 }
 
-/// True or false, which must stand at a name.
+/// True or false, which must be at a name.
 pub(crate) fn flag_at(
     alloc: Global,
     object: &Value,
@@ -116,7 +116,7 @@ pub(crate) fn whole_or_at(
     }
 }
 
-/// In how many ticks a clock gains or loses one, 12,000 to 864,000; 0, which is never, where none is said.
+/// In how many ticks a clock gains or loses one, 12,000 to 864,000; by default 0, which means never.
 pub(crate) fn rare_at(
     alloc: Global,
     object: &Value,

@@ -1,4 +1,4 @@
-//! Where in a scenario a value stands, how that is written, and the refusals that name it. Text is made only where a fault
+//! Where in a scenario a value is, how that is written, and the refusals that name it. Text is made only where a fault
 //! was found.
 
 ghost use Rattle.std.specs.Prelude.{◌≡◌, IfOk, string_bytes};
@@ -38,7 +38,7 @@ pub enum Place {
     },
 }
 
-/// The name at which a list stands.
+/// The name at which a list is.
 pub(crate) fn list_name(list: List) -> &'static str
     ensures { result.now ≡ list_name list }
 {

@@ -17,8 +17,8 @@ use serde_json::Value;
 use sig_types::Request;
 use std::alloc::Global;
 
-/// Refuses what is no object, and the least name that an item does not have: where a request or a cancel stands alone, the
-/// names of the other are not known.
+/// Refuses what is not an object, and the least name that an item does not have: where a request or a cancel is the
+/// only one, the names of the other are not known.
 fn known_in_item(
     alloc: Global,
     object: &Value,
@@ -186,7 +186,7 @@ fn items_in(
     Ok(found)
 }
 
-/// What is asked in a scenario with so many rounds and cabinets; nothing where nothing is said.
+/// What is asked in a scenario with that many rounds and cabinets; nothing by default.
 #[tactic(auto, using(crate::proofs::Refusing::refuses_more))]
 pub(crate) fn priority_at(
     alloc: Global,

@@ -41,7 +41,7 @@ pub fn community_at(alloc: Global, object: &Value) -> Result<ArrayVec<u8, 32>, R
     }
 }
 
-/// What stands for the whole run, in a scenario of this version.
+/// What represents the whole run, in a scenario of this version.
 pub(crate) fn setup_in(alloc: Global, object: &Value, version: u32) -> Result<Setup, ReadFail>
     ensures read { Answers result (fields_faults (steps_of Place.Top) (view object.now) (setup_fields version)) (λ setup. SaysSetup setup version (view object.now)) }
     ensures few { IfOk result (λ setup. length setup.cabinets.items ≤ 64 × (setup.rounds ≤ 86400) × (setup.ticks ≤ 600)) }

@@ -26,7 +26,7 @@ one-taken : (b : Bool) (xs ys : List Item) (n : ℕ) (x : Item) → drop n xs �
 one-taken true xs ys n x e = behind-drop xs ys n x e
 one-taken false xs ys n x e = e
 
--- behind some passes each stream has still what its pass brings in these acts
+-- after some passes each stream has still what its pass brings in these acts
 abbrev pub AreLeft : List (List Item) → List ℕ → List Act → Type 0
 AreLeft streams before acts = (p : ℕ) → drop (times p before) (get_or streams p []) ≡ of_pass p acts
 
@@ -43,7 +43,7 @@ acts-again streams before (act ∷ acts) left =
     ap (λ (item : Item). made item ∷ acts_from streams (q ∷ before) (passes_in acts)) (at-drop (get_or streams q []) (of_pass q acts) (times q before) act.item Ticked here)
     ∙ ap (λ (r : List Act). act ∷ r) (acts-again streams (q ∷ before) acts later)
 
--- a pass stands in a journal as often as it brings something in the acts
+-- a pass is in a journal as often as it brings something in the acts
 one-counted : (b : Bool) (n : ℕ) (x : Item) (xs : List Item) → n ≡ length xs → (if b then n + 1 else n) ≡ length (if b then x ∷ xs else xs)
 one-counted true n x xs e = omega (arith, e)
 one-counted false n x xs e = e
@@ -52,8 +52,8 @@ pub passes-counted : (p : ℕ) (acts : List Act) → times p (passes_in acts) �
 passes-counted p [] = refl
 passes-counted p (act ∷ acts) = one-counted (p == act.pass) (times p (passes_in acts)) act.item (of_pass p acts) (passes-counted p acts)
 
--- where a pass stands in a journal as often as some items are, which are the next ones of its stream, it brings these
--- what is left to bring
+-- where a pass is in a journal as often as some items are, which are the next ones of its stream, it brings these what
+-- is left to bring
 abbrev Given : List (List Item) → ℕ → List ℕ → Type 0
 Given streams p journal = (before : List ℕ) (items more : List Item) → drop (times p before) (get_or streams p []) ≡ items ++ more
     → times p journal ≡ length items → of_pass p (acts_from streams before journal) ≡ items

@@ -23,7 +23,7 @@ use Rattle.session_laws.proofs.Acts.{of_pass, of-pass-append}
 abbrev pub AreSteps : List Step → Type 0
 AreSteps steps = (requests : List Request) × (steps ≡ map step_of requests)
 
--- one of all rounds: these are its steps, and those of the rounds before it; the newest stands first
+-- one of all rounds: these are its steps, and those of the rounds before it; the newest is first
 pub record IsRoundOf (all : List (List Step)) (steps : List Step) (before : List (List Step)) : Type 0 where
   pub later : List (List Step)
   pub whole : all ≡ later ++ (steps ∷ before)

@@ -24,9 +24,9 @@ pub all-map : {X : Type 0} (P Q : X → Type 0) → ((x : X) → P x → Q x) �
 all-map P Q turn [] all = tt
 all-map P Q turn (x ∷ xs) all = (turn x all.0, all-map P Q turn xs all.1)
 
--- ---- lines that tell of a cabinet
+-- ---- lines about a cabinet
 
--- the line tells of this cabinet, and is no journal
+-- the line is about this cabinet, and is not a journal
 pub record IsToldOf (cab : ℕ) (line : Line) : Type 0 where
   pub street : is_of_street line ≡ false
   pub journal : (n : ℕ) → is_journal_of n line ≡ false
@@ -124,7 +124,7 @@ each-found keep lines cab none t first (u ∷ ts) (inr later) =
     ∙ ap (λ (x : List Line). x ++ filter keep (each lines (first + 1) ts)) (none first u (λ e. omega (arith, e, high)))
     ∙ each-found keep lines cab none t (first + 1) ts later
 
--- what a part has of a cabinet: its journal, and what else is told of it
+-- what a part has of a cabinet: its journal, and what else is reported of it
 pub record HasOf (part journal told : List Line) (cab : ℕ) : Type 0 where
   pub of_journal : filter (is_journal_of cab) part ≡ journal
   pub of_told : filter (is_told_of cab) part ≡ told

@@ -1,4 +1,4 @@
--- What the line carries in the first rounds rests on the faults of these rounds alone.
+-- What the line carries in the first rounds rests on the faults only of these rounds.
 use Rattle.std.proofs.Common.{◌≡◌, ◌∙◌, ◌+◌, ◌<◌, ◌≤◌, ◌==◌, nat_le, ℕ, false, List, [], ◌∷◌, ◌++◌, length, Option, refl, ap, arith, leb-false, ne_eqb}
 use Rattle.scenario_data.specs.declared.scenario.Fault.{Fault}
 use Rattle.link_sim.specs.declared.Line.{Line}
@@ -7,7 +7,7 @@ use Rattle.link_sim.specs.Carried.{arriving_from, copies_from, late_copies, carr
 use Rattle.session_laws.specs.Record.{of_rounds}
 use Rattle.session_laws.proofs.Lists.{find-within}
 
--- the faults of so many first rounds
+-- the faults of that many first rounds
 abbrev pub faults_to : ℕ → List Fault → List Fault
 faults_to rounds faults = of_rounds (λ (f : Fault). f.round) rounds faults
 

@@ -1,4 +1,4 @@
--- The answers to some requests stand first, whatever is asked later.
+-- The answers to some requests are first, whatever is asked later.
 use Rattle.std.proofs.Common.{◌≡◌, ℕ, Bool, true, false, if◌then◌else◌, List, [], ◌∷◌, ◌++◌, refl, ap}
 use Rattle.scenario_data.specs.Content.{ScenarioContent}
 use Rattle.session_laws.specs.Session.{SessionHistory, opened_session, is_over}

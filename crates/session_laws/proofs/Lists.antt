@@ -1,4 +1,4 @@
--- Lists: what filters keep, what stands at a place, and items that stand by rounds.
+-- Lists: what filters keep, what is at a place, and items that are ordered by rounds.
 use Rattle.std.proofs.Common.{◌≡◌, ◌∙◌, ◌+◌, ◌<◌, ◌≤◌, cond, ℕ, Bool, true, false, nat_le, nat_lt, if◌then◌else◌, List, [], ◌∷◌, ◌++◌, filter, find, get_or, drop, Some, None, is_some, true≢false, refl, sym, ap, arith, get_or-drop, drop-drop, ltb-false}
 use Rattle.std.proofs.lemmas.Bool.{lt-leb}
 use Rattle.std.specs.List.{AllByRecursion}
@@ -61,7 +61,7 @@ at-drop xs ys n x d e =
 pub behind-drop : {X : Type 0} (xs ys : List X) (n : ℕ) (x : X) → drop n xs ≡ x ∷ ys → drop (n + 1) xs ≡ ys
 behind-drop xs ys n x e = sym (drop-drop 1 n xs) ∙ ap (λ l. drop 1 l) e
 
--- ---- items that stand by rounds
+-- ---- items that are ordered by rounds
 
 -- the first of some items isn't before this round, and none is before the one that it follows
 pub record IsEarly {X : Type 0} (round_of : X → ℕ) (place last : ℕ) (x : X) (xs : List X) : Type 0 where
@@ -77,7 +77,7 @@ pub early-parts : {X : Type 0} (round_of : X → ℕ) (place last : ℕ) (x : X)
     → first_early round_of place last (x ∷ xs) ≡ None → IsEarly round_of place last x xs
 early-parts round_of place last x xs e = early-one round_of place last x xs (nat_lt (round_of x) last) refl e
 
--- of such items that begin behind some rounds none is of these
+-- of such items that begin after some rounds none is of these
 pub rounds-late : {X : Type 0} (round_of : X → ℕ) (rounds place last : ℕ) (xs : List X) → first_early round_of place last xs ≡ None → rounds < last
     → of_rounds round_of rounds xs ≡ []
 rounds-late round_of rounds place last [] e late = refl

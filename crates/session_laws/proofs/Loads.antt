@@ -1,5 +1,5 @@
--- The downloads that the master begins in the first rounds are the same where later ones are left out: these stand
--- last, and none of them is begun in these rounds.
+-- The downloads that the master begins in the first rounds are the same where later ones are left out: these are last,
+-- and none of them is begun in these rounds.
 use Rattle.std.proofs.Common.{◌≡◌, ◌∙◌, ◌+◌, ◌-◌, ◌<◌, ◌≤◌, ◌==◌, cond, nat_le, if◌then◌else◌, ℕ, zero, suc, ℤ, Bool, true, false, List, [], ◌∷◌, length, Option, Some, None, slice_get, option_map, refl, sym, ap, subst, arith, leb-false, leb-true, le-leb}
 use Rattle.std.proofs.lemmas.Bool.{lt-leb}
 use Rattle.std.proofs.lemmas.Option.{none-some}
@@ -18,7 +18,7 @@ use Rattle.session_laws.proofs.Lists.{early-parts, rounds-late, if-true, if-fals
 abbrev pub round_of : LoadContent → ℕ
 round_of l = l.round
 
--- the loads of so many first rounds
+-- the loads of that many first rounds
 abbrev pub loads_to : ℕ → List LoadContent → List LoadContent
 loads_to rounds loads = of_rounds round_of rounds loads
 

@@ -1,4 +1,4 @@
--- The lines of a round of a session, as they are told, are those of the round in the order of a trace.
+-- The lines of a round of a session, as they are reported, are those of the round in the order of a trace.
 use Rattle.std.proofs.Common.{◌≡◌, ◌≢◌, ◌∙◌, ◌+◌, ◌==◌, ℕ, true, false, List, [], ◌∷◌, ◌++◌, length, map, filter, refl, sym, ap, subst, append-nil, append_assoc, eq-eqb, ne_eqb}
 use Rattle.std.specs.List.{AllByRecursion}
 use Rattle.sig_tables.specs.Decide.{last_frame_of}
@@ -34,7 +34,7 @@ lines-append cab h (act ∷ acts) more =
 
 -- ---- steps one after another
 
--- the lines of steps behind others
+-- the lines of steps after others
 abbrev pub steps_lines : ScenarioContent → List CabinetState → List Step → List Step → List Line
 steps_lines s ts done [] = []
 steps_lines s ts done (step ∷ steps) = each_step s 1 ts done step ++ steps_lines s ts (done ++ step ∷ []) steps
@@ -95,7 +95,7 @@ notes-each s first (t ∷ ts) = ap (λ (r : List Line). notes_of s first t ++ r)
 
 -- ---- what the lines of a round are
 
--- some lines as a part has them: those of the street, those of a cabinet's journal, and what else is told of the
+-- some lines as a part has them: those of the street, those of a cabinet's journal, and what else is reported of the
 -- cabinet
 pub record Seen (lines street journal told : List Line) (cab : ℕ) : Type 0 where
   pub of_street : filter is_of_street lines ≡ street
@@ -109,7 +109,7 @@ seen-append cab xs a b c ys d e f one two = record {
   of_told = filter-append (is_told_of cab) xs ys ∙ ap (λ (x : List Line). x ++ filter (is_told_of cab) ys) one.of_told ∙ ap (λ (x : List Line). c ++ x) two.of_told;
 }
 
--- lines that each cabinet tells of itself
+-- lines of each cabinet about itself
 told-seen : (lines : ℕ → CabinetState → List Line) → ((n : ℕ) (t : CabinetState) → AreToldOf n (lines n t)) → (cab : ℕ) (t : CabinetState) (ts : List CabinetState)
     → HasComeTo cab t 1 ts → Seen (each lines 1 ts) [] [] (lines cab t) cab
 told-seen lines are cab t ts come = record {
@@ -179,7 +179,7 @@ journals-seen s steps cab t ts come =
 
 -- ---- a round
 
--- what is told in a round, but for its number
+-- what is reported in a round, except its number
 abbrev pub body_lines : ScenarioContent → List CabinetState → List Step → List Line
 body_lines s ts steps = (notes_lines s 1 ts ++ each_begin s 1 ts) ++ (steps_lines s ts [] steps ++ each_journal s 1 ts steps)
 
@@ -201,7 +201,7 @@ told-by-acts s cab t steps =
     ap (λ (x : List Act). begun_of s cab t ++ acts_lines cab (after t.cabinet_history (items_in x)) (steps_acts cab steps)) (append-nil (begin_acts s cab t))
     ∙ sym (lines-append cab t.cabinet_history (begin_acts s cab t) (steps_acts cab steps))
 
--- what a cabinet tells in a round
+-- what a cabinet says in a round
 abbrev told_of : ScenarioContent → List Step → ℕ → CabinetState → List Line
 told_of s steps n t = acts_lines n t.cabinet_history (session_acts s n t steps)
 

@@ -47,7 +47,7 @@ order-from many b lines begins =
     ap (parts_in_order many) (parts-from b lines begins)
     ∙ ap (λ (x : List Line). x ++ parts_in_order many (before_parts b (parts_of lines))) (nothing-of 1 many)
 
--- what stands before the first part comes first
+-- what is before the first part comes first
 pub order-first : (many : ℕ) (part : List Line) (b : Line) (lines : List Line) → InOnePart part → begins_part b ≡ true
     → in_trace_order many (part ++ (b ∷ lines)) ≡ part_in_order many part ++ in_trace_order many (b ∷ lines)
 order-first many part b lines one begins =

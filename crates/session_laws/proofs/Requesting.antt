@@ -1,5 +1,5 @@
--- The priority requests of the first rounds are the same where later ones are left out: they stand by rounds, so none
--- changes its number.
+-- The priority requests of the first rounds are the same where later ones are left out: they are ordered by rounds, so
+-- none changes its number.
 use Rattle.std.proofs.Common.{◌≡◌, ◌∙◌, ◌+◌, ◌<◌, ◌≤◌, ◌==◌, ◌&&◌, cond, nat_le, if◌then◌else◌, pos, ℕ, zero, suc, Bool, true, false, List, [], ◌∷◌, length, None, refl, sym, ap, arith, leb-false, ne_eqb}
 use Rattle.scenario_data.specs.declared.scenario.PriorityItem.{PriorityItem}
 use Rattle.scenario_data.specs.Content.{ScenarioContent}

@@ -1,5 +1,5 @@
--- The rounds of a session are rounds of the scenario that results: its journals take all items, and its cabinets come
--- to the same.
+-- The rounds of a session are rounds of the scenario that results: its journals take all items, and its cabinets reach
+-- the same.
 use Rattle.std.proofs.Common.{◌≡◌, ◌∙◌, ◌+◌, ◌≤◌, ℕ, suc, List, [], ◌∷◌, ◌++◌, length, map, refl, sym, ap, subst, arith, append_assoc, append-nil}
 use Rattle.std.proofs.lemmas.List.{length-append}
 use Rattle.std.specs.List.{AllByRecursion}
@@ -24,7 +24,7 @@ use Rattle.session_laws.proofs.Bringing.{IsRoundOf, round-within}
 use Rattle.session_laws.proofs.Turning.{noted-kept}
 use Rattle.session_laws.proofs.Streams.{IsRound, streams-whole}
 
--- each of these cabinets has answered in so many rounds
+-- each of these cabinets has answered in that many rounds
 abbrev pub HaveAnswered : ℕ → List CabinetState → Type 0
 HaveAnswered rounds ts = AllByRecursion (λ (t : CabinetState). length t.answered ≡ rounds) ts
 
@@ -137,7 +137,7 @@ pub after-answered : (s : ScenarioContent) (before : List (List Step)) → HaveA
 after-answered s [] = opened-answered s s.cabinets
 after-answered s (steps ∷ before) = behind-answered s (length before) 1 (states_after s before) steps (after-answered s before)
 
--- ---- one round behind others
+-- ---- one round after others
 
 states-more : (s : ScenarioContent) (ts : List CabinetState) (js : List (List (List ℕ))) (one : List (List ℕ))
     → cabinet_states_after s ts (js ++ one ∷ []) ≡ each_cabinet_state s 1 (cabinet_states_after s ts js) one
@@ -157,7 +157,7 @@ journals-counted s (steps ∷ before) =
 
 -- ---- all rounds
 
--- so far the cabinets of the scenario that results come to the same, by journals of it, and have the same lines
+-- so far the cabinets of the resulting scenario reach the same state, by its journals, and have the same lines
 pub record RoundsKept (s : ScenarioContent) (all : List (List Step)) (compact : List ℕ) (rounds : List (List Step)) : Type 0 where
   pub states : cabinet_states_after (resulting s all compact) (opened_cabinet_states s s.cabinets) (session_journals s rounds) ≡ states_after s rounds
   pub merges : AreMerges (resulting s all compact) (opened_cabinet_states s s.cabinets) (session_journals s rounds)
@@ -205,7 +205,7 @@ journals-are s all compact early are = record {
   merges = (rounds-kept s all compact [] all early refl are).merges;
 }
 
--- the lines of the run behind its scenario
+-- the lines of the run after its scenario
 abbrev pub session_told : ScenarioContent → List (List Step) → List Line
 session_told s all = opening_lines 1 (opened_cabinet_states s s.cabinets) ++ (rounds_told s all ++ Z (length all) ∷ [])
 

@@ -15,7 +15,7 @@ use Rattle.session_laws.proofs.Rounds.{AreRounds}
 
 -- ---- a request has no more ticks than are left
 
--- what was read fits: ticks are no more than so many
+-- what was read fits: ticks are no more than that many
 abbrev Fits : ℕ → Result Request Untaken → Type 0
 Fits left (Ok (Tick many)) = many ≤ left
 Fits left (Ok (Input cab field)) = Unit {0}
@@ -109,7 +109,7 @@ pub steps-made : (steps : List Step) (request : Request) → AreSteps steps → 
 steps-made steps request (requests, made) =
     (requests ++ request ∷ [], ap (λ (x : List Step). x ++ step_of request ∷ []) made ∙ sym (map_push step_of requests request))
 
--- a session that has gone on so far: its closed rounds are rounds, and in the round under way some ticks are left
+-- a session that has continued so far: its closed rounds are rounds, and in the round under way some ticks are left
 pub record SessionGoesOn (s : ScenarioContent) (h : SessionHistory) : Type 0 where
   pub closed : AreRounds s h.closed
   pub made : AreSteps h.steps

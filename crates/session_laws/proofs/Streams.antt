@@ -100,7 +100,7 @@ joined : (s : ScenarioContent) (cab : ℕ) (t : CabinetState) (steps : List Step
 joined s cab t steps p stream begun whole given =
     whole ∙ ap (λ (r : List Item). r ++ of_pass p (steps_acts cab steps)) (sym given) ∙ sym (of-pass-append p (begin_acts s cab t) (steps_acts cab steps))
 
--- a round of a session that has so many ticks
+-- a round of a session that has this number of ticks
 pub record IsRound (s : ScenarioContent) (steps : List Step) : Type 0 where
   pub made : AreSteps steps
   pub full : ticks_in steps ≡ s.ticks

@@ -34,7 +34,7 @@ states-counted s (steps ∷ before) = behind-counted s 1 (states_after s before)
 abbrev under_way : List (List Step) → List Step → SessionHistory
 under_way closed steps = record { closed = closed; steps = steps }
 
--- what is told of it so far
+-- what is reported of it so far
 abbrev so_far : ScenarioContent → SessionHistory → List Line
 so_far s h =
     begin_lines s (length h.closed + 1) (states_after s h.closed) ++ steps_lines s (states_after s h.closed) [] h.steps
@@ -55,7 +55,7 @@ so-far-more s h step rest =
     ∙ ap (λ (x : List Line). x ++ rest) (append_assoc begun stepped own)
     ∙ ap (λ (x : List Line). (begun ++ x) ++ rest) (sym (steps-more s ts [] h.steps step))
 
--- a round with these steps, and its journals behind them
+-- a round with these steps, and its journals after them
 whole-body : (s : ScenarioContent) (round : ℕ) (ts : List CabinetState) (steps : List Step) (rest : List Line)
     → (begin_lines s round ts ++ steps_lines s ts [] steps) ++ (each_journal s 1 ts steps ++ rest) ≡ R round ∷ (body_lines s ts steps ++ rest)
 whole-body s round ts steps rest =
@@ -95,7 +95,7 @@ session-closed s closed steps n all =
 
 -- ---- answer by answer
 
--- behind so many closed rounds: the lines of these answers, with what was told of the round under way
+-- after that many closed rounds: the lines of these answers, with what was reported of the round under way
 abbrev told_with : ScenarioContent → SessionHistory → List Line → List Line
 told_with s h lines = rounds_told s h.closed ++ in_trace_order (length s.cabinets) (so_far s h ++ lines)
 
@@ -103,7 +103,7 @@ told_with s h lines = rounds_told s h.closed ++ in_trace_order (length s.cabinet
 abbrev told_whole : ScenarioContent → List (List Step) → List Line
 told_whole s all = rounds_told s all ++ Z (length all) ∷ []
 
--- the answers from here on tell all rounds from here on
+-- the answers from here on give all rounds from here on
 abbrev TellsFrom : ScenarioContent → SessionHistory → List (List ℕ) → Type 0
 TellsFrom s h lines = told_with s h (lines_in (answers_from s h lines)) ≡ told_whole s (rounds_from s h lines)
 

@@ -1,4 +1,4 @@
--- What the master does in the first rounds rests on what the scenario has of these rounds alone.
+-- What the master does in the first rounds rests on what the scenario has only of these rounds.
 use Rattle.std.proofs.Common.{◌≡◌, ◌∙◌, ◌+◌, ◌≤◌, ℕ, List, [], ◌∷◌, length, map, Option, Some, None, option_to_list, option_map, refl, sym, ap, subst, arith}
 use Rattle.std.proofs.lemmas.List.{length-map}
 use Rattle.sig_types.specs.declared.notes.Way.{Way}
@@ -58,7 +58,7 @@ pub record TurnsKept (s : ScenarioContent) (all : List (List Step)) (compact : L
   pub agrees : AgreesIf (length all) cab s.loads (last_frame (load_events (turns s cab c arrived)))
   pub counted : length (turns s cab c arrived) ≡ length arrived
 
--- what the loader has been told by the time of a turn's frame
+-- what the loader has got by the time of a turn's frame
 abbrev told_by : Turn → List Turn → List LoadEvent
 told_by t past = told t.loads (load_events past)
 

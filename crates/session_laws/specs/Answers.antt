@@ -14,7 +14,7 @@ use Rattle.session_words.specs.declared.request.Untaken.TheVariants.{Full}
 use Rattle.session_words.specs.Requests.{request_of}
 use Rattle.session_laws.specs.Session.{SessionHistory, Step, Ticks, opened_session, step_of, step_acts, begin_acts, session_acts, history_by, states_after, ticks_left, items_brought, steps_with, is_last, with_step, steps_to_end, is_over}
 
--- the passes of these acts, which are the journal that tells them
+-- the passes of these acts, which are the journal that gives them
 abbrev pub passes_in : List Act → List ℕ
 passes_in [] = []
 passes_in (act ∷ acts) = act.pass ∷ passes_in acts
@@ -32,7 +32,7 @@ each_begin s first (t ∷ ts) = acts_lines first t.cabinet_history (begin_acts s
 abbrev pub begin_lines : ScenarioContent → ℕ → List CabinetState → List Line
 begin_lines s round ts = head_lines s round ts ++ each_begin s 1 ts
 
--- the lines of a step behind others of its round, cabinet by cabinet
+-- the lines of a step after others of its round, cabinet by cabinet
 abbrev pub each_step : ScenarioContent → ℕ → List CabinetState → List Step → Step → List Line
 each_step s first [] steps step = []
 each_step s first (t ∷ ts) steps step =
@@ -43,8 +43,8 @@ abbrev pub each_journal : ScenarioContent → ℕ → List CabinetState → List
 each_journal s first [] steps = []
 each_journal s first (t ∷ ts) steps = J first (runs_of (journal_by s first t steps)) ∷ each_journal s (first + 1) ts steps
 
--- what stands behind a round after which so many are closed, and the cabinets have come to this: the next round
--- begins, or the end
+-- what follows a round after which that many are closed, and the cabinets have reached this: the next round begins, or
+-- the end
 abbrev pub next_lines : ScenarioContent → ℕ → List CabinetState → List Line
 next_lines s closed ts = if closed == s.rounds then Z closed ∷ [] else begin_lines s (closed + 1) ts
 
@@ -53,7 +53,7 @@ abbrev pub end_lines : ScenarioContent → SessionHistory → List Step → List
 end_lines s h steps =
     each_journal s 1 (states_after s h.closed) steps ++ next_lines s (length h.closed + 1) (states_after s (steps ∷ h.closed))
 
--- the lines of a step: what the cabinets tell, and where it is the last of its round, the end of that
+-- the lines of a step: what the cabinets say, and where it is the last of its round, the end of that
 abbrev pub step_lines : ScenarioContent → SessionHistory → Step → List Line
 step_lines s h step =
     each_step s 1 (states_after s h.closed) h.steps step ++ (if is_last s h step then end_lines s h (steps_with h step) else [])
@@ -95,22 +95,21 @@ abbrev pub next_by : ScenarioContent → SessionHistory → Result Request Untak
 next_by s h (Ok request) = with_step s h (step_of request)
 next_by s h (Err untaken) = h
 
--- the answer to a line, and what the session has come to behind it; what can't be taken changes nothing
+-- the answer to a line, and what the session has reached after it; what isn't accepted changes nothing
 abbrev pub answer_to : ScenarioContent → SessionHistory → List ℕ → Answer
 answer_to s h line = answer_by s h (taken s h line)
 
 abbrev pub next_session : ScenarioContent → SessionHistory → List ℕ → SessionHistory
 next_session s h line = next_by s h (taken s h line)
 
--- the answers to these lines and to the end of the input behind them; of what stands behind the last round nothing is
--- answered
+-- the answers to these lines and to the end of the input after them; of what follows the last round nothing is answered
 abbrev pub answers_from : ScenarioContent → SessionHistory → List (List ℕ) → List Answer
 answers_from s h [] = Lines (end_of_input_lines s h) ∷ []
 answers_from s h (line ∷ lines) =
     answer_to s h line
     ∷ (if is_over s (next_session s h line) then [] else answers_from s (next_session s h line) lines)
 
--- the answers to these lines alone, while the input goes on
+-- the answers to only these lines, while the input continues
 abbrev pub answers_while : ScenarioContent → SessionHistory → List (List ℕ) → List Answer
 answers_while s h [] = []
 answers_while s h (line ∷ lines) =

@@ -1,5 +1,5 @@
--- A session as bytes: its input, a scenario in the first line and a request in each line behind it, and the text of
--- its answers.
+-- A session as bytes: its input, a scenario in the first line and a request in each line after it, and the text of its
+-- answers.
 use Rattle.std.specs.Prelude.{◌≡◌, ℕ, ◌+◌, nat_lt, if◌then◌else◌, List, [], ◌∷◌, ◌++◌, codes, decimal, Option, Some, None}
 use Rattle.safety_laws.specs.TraceText.{lines_text}
 use Rattle.std.specs.Option.{option_map}
@@ -44,7 +44,7 @@ early_load s = first_early (λ l. l.round) 0 0 s.loads
 abbrev pub early_priority : ScenarioContent → Option ℕ
 early_priority s = first_early (λ p. p.round) 0 0 s.priority
 
--- loads and priority requests stand by rounds
+-- loads and priority requests are ordered by rounds
 pub record IsByRounds (s : ScenarioContent) : Type 0 where
   pub loads : early_load s ≡ None
   pub priority : early_priority s ≡ None
@@ -53,7 +53,7 @@ pub record IsByRounds (s : ScenarioContent) : Type 0 where
 abbrev pub round_path : List ℕ → ℕ → List ℕ
 round_path name place = name ++ (codes "[" ++ (decimal place ++ codes "].round"))
 
--- the path of the first item that doesn't stand by rounds: loads are looked at first
+-- the path of the first item that isn't by rounds: loads are looked at first
 abbrev pub early_path : Option ℕ → Option ℕ → Option (List ℕ)
 early_path (Some place) priority = Some (round_path (codes "loads") place)
 early_path None (Some place) = Some (round_path (codes "priority") place)

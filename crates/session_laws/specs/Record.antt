@@ -36,7 +36,7 @@ abbrev pub frames_by : ℕ → List Step → List FrameContent
 frames_by round [] = []
 frames_by round (step ∷ steps) = frame_of round step ++ frames_by round steps
 
--- and what rounds with these steps bring, of which the newest stands first
+-- and what rounds with these steps bring, of which the newest is first
 abbrev pub inputs_brought : List (List Step) → List Input
 inputs_brought [] = []
 inputs_brought (steps ∷ before) = inputs_brought before ++ inputs_by (length before + 1) steps
@@ -49,7 +49,7 @@ frames_brought (steps ∷ before) = frames_brought before ++ frames_by (length b
 abbrev pub of_rounds : {A : Type 0} → (A → ℕ) → ℕ → List A → List A
 of_rounds round_of rounds xs = filter (λ x. nat_le (round_of x) rounds) xs
 
--- the scenario that results from a session with these rounds: the base cut to them, and behind its inputs and frames
+-- the scenario that results from a session with these rounds: the base cut to them, and after its inputs and frames
 -- what the session brought. Its compact text is this.
 abbrev pub resulting : ScenarioContent → List (List Step) → List ℕ → ScenarioContent
 resulting s rounds compact = record {
@@ -94,7 +94,7 @@ abbrev pub before_parts : Line → List (List Line) → List (List Line)
 before_parts line [] = (line ∷ []) ∷ []
 before_parts line (part ∷ parts) = (line ∷ part) ∷ parts
 
--- the parts of some lines: what stands before the first round, each round, and the end
+-- the parts of some lines: what is before the first round, each round, and the end
 abbrev pub parts_of : List Line → List (List Line)
 parts_of [] = [] ∷ []
 parts_of (line ∷ lines) = if begins_part line then [] ∷ before_parts line (parts_of lines) else before_parts line (parts_of lines)
@@ -106,7 +106,7 @@ is_of_street (M note) = true
 is_of_street (Z rounds) = true
 is_of_street _ = false
 
--- the journal of a cabinet, and what else is told of it
+-- the journal of a cabinet, and what else is reported of it
 abbrev pub is_journal_of : ℕ → Line → Bool
 is_journal_of cab (J of runs) = of == cab
 is_journal_of cab _ = false
@@ -117,14 +117,14 @@ is_told_of cab (L of id result) = of == cab
 is_told_of cab (A of pass hex) = of == cab
 is_told_of cab _ = false
 
--- of a part the lines of so many cabinets, counted from a first number: the journal of each before what else is told
--- of it
+-- of a part the lines of that many cabinets, counted from a first number: the journal of each before what else is
+-- reported of it
 abbrev pub cabinets_in_order : ℕ → ℕ → List Line → List Line
 cabinets_in_order first zero part = []
 cabinets_in_order first (suc many) part =
     filter (is_journal_of first) part ++ (filter (is_told_of first) part ++ cabinets_in_order (first + 1) many part)
 
--- a part in the order of a trace of so many cabinets
+-- a part in the order of a trace of that many cabinets
 abbrev pub part_in_order : ℕ → List Line → List Line
 part_in_order cabinets part = filter is_of_street part ++ cabinets_in_order 1 cabinets part
 

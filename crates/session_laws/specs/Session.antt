@@ -12,7 +12,7 @@ use Rattle.run_definition.specs.CabinetState.{CabinetState, answers_in, coming_s
 use Rattle.session_words.specs.declared.request.Request.{Request}
 use Rattle.session_words.specs.declared.request.Request.TheVariants.{Tick, Input, Frame}
 
--- what a request that was taken does: each cabinet has so many ticks, or a pass brings an item to one cabinet
+-- the effect of an accepted request: each cabinet has this number of ticks, or a pass brings an item to one cabinet
 pub data Step : Type 0 where
   Ticks : (many : ℕ) → Step
   Brings : (cab pass : ℕ) (item : Item) → Step
@@ -22,7 +22,7 @@ step_of (Tick many) = Ticks many
 step_of (Input cab field) = Brings cab 0 (InputTold field)
 step_of (Frame cab way octets) = Brings cab (pass_of way) (Came octets.items)
 
--- what a session has come to: the steps of the rounds that are closed, and those of the round under way
+-- what a session has reached: the steps of the rounds that are closed, and those of the round under way
 pub record SessionHistory : Type 0 where
   pub closed : List (List Step)
   pub steps : List Step
@@ -46,7 +46,7 @@ steps_acts cab (step ∷ steps) = step_acts cab step ++ steps_acts cab steps
 abbrev pub begin_acts : ScenarioContent → ℕ → CabinetState → List Act
 begin_acts s cab t = acts_of (coming_streams s cab t) (serial (take 4 (coming_streams s cab t)))
 
--- what has come to it in a round with these steps
+-- what has reached it in a round with these steps
 abbrev pub session_acts : ScenarioContent → ℕ → CabinetState → List Step → List Act
 session_acts s cab t steps = begin_acts s cab t ++ steps_acts cab steps
 
@@ -54,7 +54,7 @@ session_acts s cab t steps = begin_acts s cab t ++ steps_acts cab steps
 abbrev pub history_by : ScenarioContent → ℕ → CabinetState → List Step → CabinetHistory
 history_by s cab t steps = after t.cabinet_history (items_in (session_acts s cab t steps))
 
--- what the cabinet has come to after a round with these steps
+-- what the cabinet has reached after a round with these steps
 abbrev pub state_after_round : ScenarioContent → ℕ → CabinetState → List Step → CabinetState
 state_after_round s cab t steps = record {
   cabinet = t.cabinet;
@@ -67,7 +67,7 @@ abbrev pub states_after_round : ScenarioContent → ℕ → List CabinetState �
 states_after_round s first [] steps = []
 states_after_round s first (t ∷ ts) steps = state_after_round s first t steps ∷ states_after_round s (first + 1) ts steps
 
--- what each cabinet has come to after rounds with these steps
+-- what each cabinet has reached after rounds with these steps
 abbrev pub states_after : ScenarioContent → List (List Step) → List CabinetState
 states_after s [] = opened_cabinet_states s s.cabinets
 states_after s (steps ∷ before) = states_after_round s 1 (states_after s before) steps
@@ -94,11 +94,11 @@ items_brought (Brings cab pass item ∷ steps) = items_brought steps + 1
 abbrev pub steps_with : SessionHistory → Step → List Step
 steps_with h step = h.steps ++ step ∷ []
 
--- the step is the last of its round, which has no tick left behind it
+-- the step is the last of its round, which has no tick left after it
 abbrev pub is_last : ScenarioContent → SessionHistory → Step → Bool
 is_last s h step = ticks_left_after s (steps_with h step) == 0
 
--- the round under way is closed behind these steps, and the next is under way
+-- the round under way is closed after these steps, and the next is under way
 abbrev pub with_round : SessionHistory → List Step → SessionHistory
 with_round h steps = record { closed = steps ∷ h.closed; steps = [] }
 

@@ -49,7 +49,7 @@ pub whole_lines-none : (bytes : List ℕ) → Lacks 10 bytes → whole_lines byt
 whole_lines-none [] lacks = refl
 whole_lines-none (x ∷ xs) lacks = rw (lacks-head 10 x xs lacks) (ap (before_lines x) (whole_lines-none xs (lacks-tail 10 x xs lacks)))
 
--- a front without a newline is a front of the first line
+-- a front without a newline is a prefix of the first line
 pub first_line-on : (front rest : List ℕ) → Lacks 10 front → first_line (front ++ rest) ≡ front ++ first_line rest
 first_line-on [] rest lacks = refl
 first_line-on (x ∷ xs) rest lacks = rw (lacks-head 10 x xs lacks) (ap (λ (ys : List ℕ). x ∷ ys) (first_line-on xs rest (lacks-tail 10 x xs lacks)))
@@ -63,7 +63,7 @@ pub words_of-one : (word : List ℕ) → Lacks 32 word → words_of word ≡ wor
 words_of-one [] lacks = refl
 words_of-one (x ∷ xs) lacks = rw (lacks-head 32 x xs lacks) (ap (before_words x) (words_of-one xs (lacks-tail 32 x xs lacks)))
 
--- what stands before the first place of a byte, and behind it
+-- what is before the first place of a byte, and after it
 pub first-place : (byte : ℕ) (bytes : List ℕ) (place : ℕ) → place < length bytes → get_or bytes place 0 ≡ byte
     → ((k : ℕ) → k < place → get_or bytes k 0 ≢ byte) → StandsFirst byte bytes place
 first-place byte bytes place low here before = record {
@@ -86,7 +86,7 @@ pub lacks-all : (byte : ℕ) (bytes : List ℕ) (found : Option ℕ) → IsFirst
 lacks-all byte bytes None is none = λ k low same. is k (omega arith) low (eq-eqb (get_or bytes k 0) byte same)
 lacks-all byte bytes (Some place) is none = absurd (cc)
 
--- the first word, and those behind the space
+-- the first word, and those after the space
 pub first-word : (line : List ℕ) (end : ℕ) → StandsFirst 32 line end
     → words_of line ≡ take end line ∷ words_of (take (length line - (end + 1)) (drop (end + 1) line))
 first-word line end stands =

@@ -18,14 +18,14 @@ read-ahead held piece None new reads = ap (ahead_of (held ++ piece)) reads
 read-ahead held piece (Some bytes) new (rest, is, whole, ended) =
     ap (ahead_of (held ++ piece)) is ∙ ap Some (append_assoc held piece rest ∙ ap (λ (ys : List ℕ). held ++ ys) (sym whole))
 
--- none is read at the end alone
+-- none is read only at the end
 pub read-end : (piece : List ℕ) (old new : Option (List ℕ)) → Reads old new piece → piece ≡ [] → new ≡ told_as [] old
 read-end piece None new reads none = reads
 read-end piece (Some bytes) new (rest, is, whole, ended) none =
     let same : rest ≡ [] = ap (λ (ys : List ℕ). ys ++ rest) (sym none) ∙ sym whole ∙ ended none in
     is ∙ ap Some same
 
--- what is told of a source stays told
+-- what is reported of a source stays reported
 pub told-same : (held more : List ℕ) (left other : Option (List ℕ)) → ahead_of held left ≡ ahead_of more other → told_as [] left ≡ told_as [] other
 told-same held more None None same = refl
 told-same held more None (Some bytes) same = absurd (cc)
@@ -110,7 +110,7 @@ pub leaves-first : (left : Option (List ℕ)) (held : List ℕ) → held ≡ [] 
 leaves-first None held none = refl
 leaves-first (Some bytes) held none = (held ++ bytes, refl, sym (ap (λ (ys : List ℕ). ys ++ bytes) none))
 
--- it goes on with all that is held
+-- it continues with all that is held
 pub leaves-on : (old left : Option (List ℕ)) (held line : List ℕ) → Leaves old (ahead_of held left) line → Leaves old left (line ++ held)
 leaves-on None None held line leaves = refl
 leaves-on None (Some left) held line leaves = absurd (cc)
@@ -181,7 +181,7 @@ read-little (Some bytes) (Some left) held line limit (rest, so, whole) short few
     let same : rest ≡ held ++ left = cc in
     omega (arith, ap (λ (ys : List ℕ). length ys) whole, length-append line rest, ap (λ (ys : List ℕ). length ys) same, length-append held left)
 
--- what is held is cut where its first newline stands
+-- what is held is cut where its first newline is
 pub cut-held : (held rest bytes : List ℕ) (place : ℕ) → StandsFirst 10 bytes place → bytes ≡ held → rest ≡ drop (place + 1) held → IsCut 10 held (take place held) rest
 cut-held held rest bytes place stands same is =
     subst (λ (ys : List ℕ). IsCut 10 held (take place held) ys) (sym is)
@@ -193,7 +193,7 @@ pub first-ends : (old left : Option (List ℕ)) (held rest line longer : List �
 first-ends old left held rest line longer leaves lacks (piece, is, cut) =
     subst (GivesLine old (ahead_of rest left)) (sym is) (leaves-line old left held line piece rest leaves lacks cut)
 
--- one that goes on with all that is held
+-- one that continues with all that is held
 pub first-goes : (old left : Option (List ℕ)) (held line longer : List ℕ) → Leaves old (ahead_of held left) line → longer ≡ line ++ held → Leaves old left longer
 first-goes old left held line longer leaves is = subst (Leaves old left) (sym is) (leaves-on old left held line leaves)
 
@@ -216,7 +216,7 @@ pub ended-told : (held more : List ℕ) (left new : Option (List ℕ)) → ahead
 ended-told held more left new same kept none ended =
     sym (ahead-none left) ∙ ap (λ (h : List ℕ). ahead_of h left) (sym none) ∙ sym same ∙ ap (λ (h : List ℕ). ahead_of h new) (kept ∙ none) ∙ ahead-none new ∙ ended
 
--- at least so many bytes of a source were read, where it tells them
+-- at least that many bytes of a source were read, if it reports them
 abbrev pub HasRead : ℕ → Option (List ℕ) → Option (List ℕ) → Type 0
 HasRead n None new = Unit {0}
 HasRead n (Some bytes) None = ⊥

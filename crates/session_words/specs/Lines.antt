@@ -1,4 +1,4 @@
--- The lines of some bytes: what stands between their newlines.
+-- The lines of some bytes: what is between their newlines.
 use Rattle.std.specs.Prelude.{◌≡◌, ◌≢◌, ◌<◌, ◌+◌, ◌==◌, ℕ, if◌then◌else◌, List, [], ◌∷◌, ◌++◌, take, drop, length, get_or}
 
 -- the bytes up to the first newline; all of them where there is none
@@ -6,7 +6,7 @@ abbrev pub first_line : List ℕ → List ℕ
 first_line [] = []
 first_line (byte ∷ bytes) = if byte == 10 then [] else byte ∷ first_line bytes
 
--- the bytes behind the first newline; none where there is none
+-- the bytes after the first newline; none where there is none
 abbrev pub behind_first : List ℕ → List ℕ
 behind_first [] = []
 behind_first (byte ∷ bytes) = if byte == 10 then bytes else behind_first bytes
@@ -16,7 +16,7 @@ abbrev pub before_lines : ℕ → List (List ℕ) → List (List ℕ)
 before_lines byte [] = []
 before_lines byte (line ∷ lines) = (byte ∷ line) ∷ lines
 
--- the lines of some bytes, each of which ends with a newline; what stands behind the last newline is in none
+-- the lines of some bytes, each of which ends with a newline; what follows the last newline is in none
 abbrev pub whole_lines : List ℕ → List (List ℕ)
 whole_lines [] = []
 whole_lines (byte ∷ bytes) = if byte == 10 then [] ∷ whole_lines bytes else before_lines byte (whole_lines bytes)
@@ -30,7 +30,7 @@ pub record IsCut (byte : ℕ) (bytes front rest : List ℕ) : Type 0 where
   pub whole : bytes ≡ front ++ byte ∷ rest
   pub lacks : Lacks byte front
 
--- the byte stands first at this place
+-- the byte is first at this place
 pub record StandsFirst (byte : ℕ) (bytes : List ℕ) (place : ℕ) : Type 0 where
   pub within : place < length bytes
   pub cut : IsCut byte bytes (take place bytes) (drop (place + 1) bytes)

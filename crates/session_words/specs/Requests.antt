@@ -1,4 +1,4 @@
--- What a line of a session asks. Its words are parted by one space each; what can't be taken is judged from the left.
+-- What a line of a session asks. Its words are parted by one space each; what isn't accepted is judged from the left.
 use Rattle.std.specs.Prelude.{ℕ, zero, suc, ◌+◌, ◌==◌, ◌&&◌, nat_le, Bool, true, false, bytes_eq, if◌then◌else◌, List, [], ◌∷◌, length, get_or, codes, decimal, Option, Some, None, Result, Ok, Err}
 use Rattle.hex.specs.Hex.{decode_of}
 use Rattle.hex.specs.declared.error.FromHexError.{FromHexError}
@@ -15,12 +15,13 @@ abbrev pub before_words : ℕ → List (List ℕ) → List (List ℕ)
 before_words byte [] = (byte ∷ []) ∷ []
 before_words byte (word ∷ words) = (byte ∷ word) ∷ words
 
--- the words of a line: what stands between its spaces; a line without a space is one word
+-- the words of a line: what is between its spaces; a line without a space is one word
 abbrev pub words_of : List ℕ → List (List ℕ)
 words_of [] = [] ∷ []
 words_of (byte ∷ bytes) = if byte == 32 then [] ∷ words_of bytes else before_words byte (words_of bytes)
 
--- of so many numbers from a first one on, the one that the word is in decimal digits: no sign, and no zero before the first
+-- of that many numbers from a first one on, the one that the word is in decimal digits: no sign, and no zero before the
+-- first
 unfoldable pub number_among : ℕ → ℕ → List ℕ → Option ℕ
 number_among first zero word = None
 number_among first (suc many) word = if bytes_eq word (decimal first) then Some first else number_among (first + 1) many word
@@ -93,11 +94,11 @@ frame_of cabinets words =
     asked_for Stream (stream_of (word_at 2 words)) (λ way.
     asked_for Hex (octets_of (word_at 3 words)) (λ octets. Ok (Frame cab way (record { items = octets })))))
 
--- so many words, of which the first is this one
+-- that many words, of which the first is this one
 abbrev pub is_form : List ℕ → ℕ → List (List ℕ) → Bool
 is_form name many words = bytes_eq (word_at 0 words) name && (length words == many)
 
--- what the words ask of so many cabinets, where so many ticks are left in the round
+-- what the words ask of that many cabinets, where that many ticks are left in the round
 abbrev pub request_of_words : ℕ → ℕ → List (List ℕ) → Result Request Untaken
 request_of_words cabinets left words =
     if is_form (codes "tick") 2 words then tick_of left words

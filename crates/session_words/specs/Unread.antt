@@ -13,7 +13,7 @@ held_of reader = drop reader.at reader.held.items
 abbrev pub given_line : LineReader → List ℕ
 given_line reader = take reader.count (drop reader.start reader.held.items)
 
--- these bytes, and then what is left, where it is told
+-- these bytes, and then what is left, where it is reported
 abbrev pub ahead_of : List ℕ → Option (List ℕ) → Option (List ℕ)
 ahead_of held None = None
 ahead_of held (Some left) = Some (held ++ left)
@@ -22,17 +22,17 @@ ahead_of held (Some left) = Some (held ++ left)
 abbrev pub unread : LineReader → Option (List ℕ) → Option (List ℕ)
 unread reader left = ahead_of (held_of reader) left
 
--- what is behind the first line, where it is told
+-- what follows the first line, where it is reported
 abbrev pub behind_told : Option (List ℕ) → Option (List ℕ)
 behind_told None = None
 behind_told (Some bytes) = Some (behind_first bytes)
 
--- the bytes begin with a front, and a rest is behind it
+-- the bytes begin with a front, and a rest is after it
 abbrev pub Leaves : Option (List ℕ) → Option (List ℕ) → List ℕ → Type 0
 Leaves None new front = new ≡ None
 Leaves (Some bytes) new front = (rest : List ℕ) × (new ≡ Some rest) × (bytes ≡ front ++ rest)
 
--- the bytes begin with a line and its newline, and a rest is behind them
+-- the bytes begin with a line and its newline, and a rest is after them
 abbrev pub GivesLine : Option (List ℕ) → Option (List ℕ) → List ℕ → Type 0
 GivesLine None new line = new ≡ None
 GivesLine (Some bytes) new line = (rest : List ℕ) × (new ≡ Some rest) × IsCut 10 bytes line rest
@@ -42,7 +42,7 @@ abbrev pub PassesLong : Option (List ℕ) → Option (List ℕ) → Type 0
 PassesLong None new = new ≡ None
 PassesLong (Some bytes) new = (line rest : List ℕ) × (new ≡ Some rest) × IsCut 10 bytes line rest × (4096 < length line)
 
--- they begin with more than 4,096 bytes without a newline, and a rest is behind them
+-- they begin with more than 4,096 bytes without a newline, and a rest is after them
 abbrev pub PassesOver : Option (List ℕ) → Option (List ℕ) → Type 0
 PassesOver None new = new ≡ None
 PassesOver (Some bytes) new = (front rest : List ℕ) × (new ≡ Some rest) × (bytes ≡ front ++ rest) × Lacks 10 front × (4096 < length front)
@@ -57,7 +57,7 @@ Gives Line old new line = GivesLine old new line × (length line ≤ 4096)
 Gives Long old new line = PassesLong old new
 Gives End old new line = HasNoLine old
 
--- a line that stands whole in what a reader holds
+-- a line that is whole in what a reader holds
 abbrev pub GivesHeld : Next → List ℕ → List ℕ → List ℕ → Type 0
 GivesHeld Line old new line = IsCut 10 old line new × (length line ≤ 4096)
 GivesHeld Long old new line = (long : List ℕ) × IsCut 10 old long new × (4096 < length long)

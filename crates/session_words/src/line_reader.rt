@@ -21,7 +21,7 @@ pub enum Next {
     Line,
     /// A longer line, whose bytes were dropped.
     Long,
-    /// The end of the input. Bytes behind the last newline are no line.
+    /// The end of the input. Bytes after the last newline are not a line.
     End,
 }
 
@@ -92,7 +92,7 @@ impl LineReader {
         &self.held[self.at..]
     }
 
-    /// Gives so many bytes of what it holds as a line, and passes over the byte behind them.
+    /// Gives that many bytes of what it holds as a line, and skips the byte after them.
     fn give(&mut self, count: usize)
         requires { count < length (held_of self.old) }
         ensures line { given_line self.new ≡ take count (held_of self.old) }
@@ -123,7 +123,7 @@ impl LineReader {
         self.count = 0;
     }
 
-    /// Holds a piece behind what it holds.
+    /// Holds a piece after what it holds.
     fn hold(&mut self, piece: &[u8])
         requires { vec_len self.old.held + length piece.now ≤ 8192 }
         ensures { held_of self.new ≡ held_of self.old ++ piece.now }
@@ -132,7 +132,7 @@ impl LineReader {
         let _ = self.held.extend_from_slice(piece);
     }
 
-    /// Reads a piece behind what the reader holds, and says how many bytes it has; 0 is the end of the input.
+    /// Reads a piece after what the reader holds, and says how many bytes it has; 0 is the end of the input.
     fn fill<S: Source>(&mut self, source: &mut S) -> Result<usize, Failed>
         requires { length (held_of self.old) ≤ 4096 }
         ensures same { OnOk result (unread self.new (S.left source.new) ≡ unread self.old (S.left source.old)) }
@@ -154,7 +154,7 @@ impl LineReader {
         Ok(count)
     }
 
-    /// The line that stands whole in what the reader holds, if one does.
+    /// The line that is whole in what the reader holds, if one does.
     fn held_line(&mut self) -> Option<Next>
         ensures some { IfSome result (λ next. GivesHeld next (held_of self.old) (held_of self.new) (given_line self.new)) }
         ensures line { result ≡ Some Next.End → ⊥ }
@@ -245,7 +245,7 @@ impl LineReader {
         }
     }
 
-    /// Moves what the reader holds of a line behind what was read of it, and says whether that ends it.
+    /// Moves what the reader holds of a line after what was read of it, and says whether that ends it.
     fn take_line(&mut self, line: &mut Vec<u8>) -> Result<bool, NoMemory>
         ensures ended { result ≡ Ok true → (piece : List ℕ) × (line.new.items ≡ line.old.items ++ piece) × IsCut 10 (held_of self.old) piece (held_of self.new) }
         ensures unended { result ≡ Ok false → (line.new.items ≡ line.old.items ++ held_of self.old) × Lacks 10 (held_of self.old) × (held_of self.new ≡ []) }

@@ -3,7 +3,7 @@
 ghost use Rattle.std.specs.Prelude.{◌≡◌, ◌∷◌, ◌++◌, [], ℕ, List};
 ghost use Rattle.session_words.specs.Lines.{first_line, behind_first, whole_lines, Lacks};
 
-/// Bytes that are cut at their first newline have the line before it, and then the lines behind it.
+/// Bytes that are cut at their first newline have the line before it, and then the lines after it.
 pub fn lines_are_cut()
     ensures first { (line rest : List ℕ) → Lacks 10 line → first_line (line ++ 10 ∷ rest) ≡ line }
     ensures behind { (line rest : List ℕ) → Lacks 10 line → behind_first (line ++ 10 ∷ rest) ≡ rest }

@@ -15,7 +15,7 @@ use std::str;
 /// How many octets the longest line has that is taken.
 const LONGEST: usize = 4096;
 
-/// The first four words of a line, and how many it has; 5 stands for more than four. A word that it hasn't is empty.
+/// The first four words of a line, and how many it has; 5 represents more than four. A word that it hasn't is empty.
 #[derive(Clone, Copy)]
 struct Words<'a> {
     first: &'a [u8],
@@ -25,7 +25,7 @@ struct Words<'a> {
     count: u8,
 }
 
-/// The first word of a line, and what stands behind the space that ends it.
+/// The first word of a line, and what follows the space that ends it.
 fn first_word(line: &[u8]) -> (&[u8], Option<&[u8]>)
     ensures { MatchOption result.1 (words_of line.now ≡ result.0.now ∷ []) (λ rest. words_of line.now ≡ result.0.now ∷ words_of rest.now) }
 {
@@ -233,7 +233,7 @@ fn frame(words: Words<'_>, cabinets: u32) -> Result<Request, Untaken>
     }
 }
 
-/// Whether these are so many words, of which the first is this one.
+/// Whether these are that many words, of which the first is this one.
 fn is_form(words: Words<'_>, name: &str, many: u8) -> bool
     requires { many ≤ 4 }
     ensures { (all : List (List ℕ)) → HasWords all words.entry → result ≡ is_form name.now many all }
@@ -241,7 +241,7 @@ fn is_form(words: Words<'_>, name: &str, many: u8) -> bool
     is(words.first, name) && words.count == many
 }
 
-/// What words ask of so many cabinets, where so many ticks are left in the round.
+/// What words ask of that many cabinets, where that many ticks are left in the round.
 fn request_in(words: Words<'_>, cabinets: u32, left: u32) -> Result<Request, Untaken>
     ensures { (all : List (List ℕ)) → HasWords all words.entry → result ≡ request_of_words cabinets left all }
 {

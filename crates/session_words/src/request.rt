@@ -5,7 +5,7 @@ use sig_types::{Field, Octets, Way};
 /// What a request asks.
 #[derive(PartialEq, Drop)]
 pub enum Request {
-    /// Each cabinet takes so many ticks of 0.1 s.
+    /// Each cabinet takes that many ticks of 0.1 s.
     Tick(u32),
     /// Something happens at the street of the cabinet with this number.
     Input(u32, Field),

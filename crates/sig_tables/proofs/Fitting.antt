@@ -1,4 +1,4 @@
--- What is put into a cell that it fits leaves in each cell what may stand in it.
+-- What is put into a cell that it fits leaves in each cell what is allowed in it.
 use Rattle.std.proofs.Common.{◌≡◌, ◌≢◌, inl, inr, ℕ, ◌≤◌, ◌-◌, Bool, true, false, ◌&&◌, if◌then◌else◌, List, [], ◌∷◌, get_or, set, refl, sym, ◌∙◌, ap, subst, arith, Result, Ok, Err}
 use Rattle.std.specs.Prelude.{is_ok}
 use Rattle.std.proofs.lemmas.Bool.{le-leb, false≢true}
@@ -48,7 +48,7 @@ phase-put Has r c v first last new old = elim (leb_tells c 10) [
   ]
 ]
 
--- a column holds what may stand there where the column that was put does, and the others are as they were
+-- a column holds what is allowed there where the column that was put does, and the others are as they were
 column-fits : (allowed : ℕ → Allowed) (old new : ℕ → Content) (c d : ℕ) → (d ≢ c → new d ≡ old d) → fits_in (allowed c) (new c) ≡ Ok tt
     → fits_in (allowed d) (old d) ≡ Ok tt → fits_in (allowed d) (new d) ≡ Ok tt
 column-fits allowed old new c d kept put stood = elim (eqb_tells d c) [
@@ -60,7 +60,7 @@ column-fits allowed old new c d kept put stood = elim (eqb_tells d c) [
 fits-as : (allowed : Allowed) (new put : Content) → new ≡ put → fits_in allowed put ≡ Ok tt → fits_in allowed new ≡ Ok tt
 fits-as allowed new put same fits = subst (λ (k : Content). fits_in allowed k ≡ Ok tt) (sym same) fits
 
--- in each column of a phase but 23 a number stands
+-- each column of a phase except 23 has a number
 number-stands : (r : PhaseTimes) (c : ℕ) → c ≢ 23 → phase_content r c ≡ Number (phase_number r c)
 number-stands r c short = elim (eqb_tells c 23) [ inl (t, last) ↦ absurd (short last) | inr (t, before) ↦ rw t refl ]
 
@@ -73,7 +73,7 @@ phase-number-fits r p c v first last fits stood =
     (phase-put (λ n. fits_in (phase_allowed c) (Number n) ≡ Ok tt) r c v first (omega arith) fits
     (fits-as (phase_allowed c) (Number (phase_number r c)) (phase_content r c) (sym (number-stands r c short)) stood))
 
--- up to column 11 of a preempt a number stands, from 12 on a list
+-- the columns of a preempt up to 11 have a number, those from 12 on a list
 preempt-number-stands : (r : Preempt) (c : ℕ) → c ≤ 11 → preempt_content r c ≡ Number (preempt_number r c)
 preempt-number-stands r c short = elim (leb_tells 12 c) [ inl (t, high) ↦ absurd (omega arith) | inr (t, low) ↦ rw t refl ]
 
@@ -186,7 +186,7 @@ put-fits t put all = split (is_cell put.0) (is_ok (fits_of put.0 put.1)) refl re
     split true false there fits = all
     split false fits there f = all
 
--- cells put in order leave in each cell what may stand in it
+-- cells put in order leave in each cell what is allowed in it
 pub cells-fit : (t : Tables) (puts : List (Cell × Content)) → EachFits t → EachFits (with_cells t puts)
 cells-fit t [] all = all
 cells-fit t (put ∷ puts) all = cells-fit (with_put t put) puts (put-fits t put all)

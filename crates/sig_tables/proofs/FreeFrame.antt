@@ -1,4 +1,4 @@
--- The frame of a tick that is about Start and Free alone.
+-- The frame of a tick that is only about Start and Free.
 use Rattle.std.proofs.Common.{◌≡◌, ℕ, Bool, true, false, not, ◌&&◌, if◌then◌else◌, List, [], ◌∷◌, map, refl, ◌∙◌, ap}
 use Rattle.sig_types.specs.declared.frame.Colour.{Colour}
 use Rattle.sig_types.specs.declared.frame.Ped.{Ped}
@@ -30,7 +30,7 @@ reached-as t veh false = refl
 pub reached-plain : (past : Past) (veh : List Colour) → RunsPlain past → mode_reached (tick_state_of past).mode past.tables veh ≡ plain_mode past.moments
 reached-plain past veh r = ap (λ (m : Mode). mode_reached m past.tables veh) (mode-plain past r) ∙ reached-as past.tables veh _
 
--- and are no local zero
+-- and are not local zero
 zero-not : (a : Bool) (counter : ℕ) (f : Frame) → is_local_zero (if a then Start else Free) counter f ≡ false
 zero-not true counter f = refl
 zero-not false counter f = refl
@@ -45,7 +45,7 @@ crossing_by past tick_inputs zero = record {
   opposed = tick_inputs.opposed;
 }
 
--- the signal by the mode of the frame, whether it is a local zero, and the lesser times
+-- the signal by the mode of the frame, whether it is a local zero, and the smaller times
 abbrev signal_by : Past → TickInputs → List Colour → Mode → Bool → ℕ → Lesser → Ped
 signal_by past tick_inputs veh mode zero p lesser =
     if walk_begins (crossing_by past tick_inputs zero) mode p (colour_of (last_frame past.moments) p) (colour_in veh p) (signal_of (last_frame past.moments) p)

@@ -1,4 +1,4 @@
--- Where no pattern and no flash is in command and no preempt input is on, a tick is about Start and Free alone.
+-- Where no pattern and no flash is in command and no preempt input is on, a tick is only about Start and Free.
 use Rattle.std.proofs.Common.{◌≡◌, ℕ, Bool, true, false, not, ◌&&◌, ◌==◌, if◌then◌else◌, List, [], None, refl, ◌∙◌, ap}
 use Rattle.std.proofs.lemmas.Bool.{false≢true}
 use Rattle.std.proofs.Math.Bool.{and-true}

@@ -1,5 +1,5 @@
--- A cabinet that is opened with no pattern and no flash in command, and to which only ticks, detectors and buttons come, is
--- about Start and Free alone.
+-- A cabinet that is opened with no pattern and no flash in command, and to which only ticks, detectors and buttons
+-- come, is only about Start and Free.
 use Rattle.std.proofs.Common.{◌≡◌, ◌⊎◌, inl, inr, ℕ, Bool, true, false, ◌==◌, if◌then◌else◌, List, [], ◌∷◌, ◌++◌, refl, ◌∙◌, ap}
 use Rattle.sig_types.specs.declared.frame.Colour.{Colour}
 use Rattle.sig_types.specs.declared.frame.Field.TheVariants.{Veh, Ped as Button, Preempt as PreemptInput}
@@ -86,7 +86,7 @@ calm t command clock (SetDrift gain lose ∷ events) d f h =
     let c : Calm t command (past_of t (events ++ opening_commands command clock)) = calm t command clock events d f h.1 in
     record { tables = c.tables; told = c.told; preempts = c.preempts; mode = c.mode }
 
--- the next tick is about Start and Free alone
+-- the next tick is only about Start and Free
 pub runs-plain : (t : Tables) (command clock : ℕ) (events : List Event) → is_defined t command ≡ false → (command == 255) ≡ false → OnlyStreet events
     → RunsPlain (past_of t (events ++ opening_commands command clock))
 runs-plain t command clock events d f h =

@@ -1,4 +1,4 @@
--- Tables that pass a test have in each cell what may stand in it; the standard tables pass it.
+-- Tables that pass a test have in each cell what is allowed in it; the standard tables pass it.
 use Rattle.std.proofs.Common.{◌≡◌, inl, inr, ℕ, zero, suc, ◌<◌, Bool, true, ◌&&◌, refl, sym, subst, arith, Ok}
 use Rattle.std.specs.Prelude.{is_ok}
 use Rattle.std.proofs.lemmas.Bool.{and_parts}
@@ -44,7 +44,7 @@ unfolding grid-fits
 grid-at test rows columns all i j row column =
     all-below-at (test i) columns (all-below-at (λ k. all-below (test k) columns) rows all i row) j column
 
--- the cells of each kind hold what may stand in them; more numbers are tried than there are
+-- the cells of each kind hold what is allowed in them; more numbers are tried than there are
 phases-fit : Tables → Bool
 phases-fit t = grid-fits (λ p c. fits-at t (Phase p c)) 17 24
 

@@ -1,4 +1,4 @@
--- The pattern in command: the last that was commanded, until the backup time has passed since.
+-- The commanded pattern: the last one that was commanded, until the backup time has passed since then.
 use Rattle.std.specs.Prelude.{ℕ, ◌-◌, ◌*◌, ◌&&◌, not, nat_le, Bool, true, false, if◌then◌else◌, List, Option, Some, None}
 use Rattle.sig_tables.specs.declared.tables.Tables.{Tables}
 use Rattle.sig_tables.specs.Past.{Past, Moment}
@@ -14,8 +14,8 @@ abbrev pub is_commanded : Option ℕ → Bool
 is_commanded (Some n) = true
 is_commanded None = false
 
--- the backup time has passed since a pattern was commanded: none of the last ticks, this one included, saw a command. They are
--- one fewer than the time has, since the tick that saw the command is the first of it
+-- the backup time has passed since a pattern was commanded: none of the last ticks, this one included, saw a command.
+-- The number of these ticks is one less than the backup time, since the tick that saw the command is its first
 abbrev pub is_backed_up : Tables → Bool → List Moment → Bool
 is_backed_up t commanded past =
     nat_le 1 t.unit.backup && lasts_now (10 * t.unit.backup - 1) (not commanded) (λ m. not m.is_commanded) past

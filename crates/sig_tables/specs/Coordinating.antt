@@ -1,20 +1,21 @@
--- What a pattern asks of the rings at a counter: room for a phase before its force point, and the force-off.
+-- What a pattern requires of the rings at a counter: room for a phase before its force point, and the force-off.
 use Rattle.std.specs.Prelude.{ℕ, ◌+◌, ◌==◌, ◌&&◌, not, nat_le, Bool, true, false, if◌then◌else◌, Option, Some, None}
 use Rattle.sig_tables.specs.declared.tables.Tables.{Tables}
 use Rattle.sig_tables.specs.Tables.{clearance}
 use Rattle.sig_tables.specs.Slots.{is_coordinated, split_time, force_point, least_service, window}
 
--- phase q can still be served within its slot where it begins k ticks after this counter of pattern n: past the window,
--- and its minimum service ends by its force point
+-- phase q can still be served within its slot if it begins k ticks after this counter of pattern n: the counter is past
+-- the window, and the phase's minimum service ends by its force point
 abbrev pub fits : Tables → ℕ → ℕ → ℕ → ℕ → Bool
 fits t n counter k q = nat_le (counter + k + least_service t q) (force_point t n q) && nat_le (window t n) counter
 
--- there is room for phase q after k ticks: always for a coordinated phase, and where no pattern binds
+-- there is room for phase q after k ticks: always for a coordinated phase, and always if no pattern binds
 abbrev pub has_room : Option ℕ → Tables → ℕ → ℕ → ℕ → Bool
 has_room None t counter k q = true
 has_room (Some n) t counter k q = if is_coordinated t n q then true else fits t n counter k q
 
--- the pattern forces phase p off: its force point has been reached, and it is not one that the pattern holds
+-- the pattern forces phase p off: its force point has been reached, and it isn't one of the coordinated phases, which
+-- the pattern holds
 abbrev pub is_forced_off : Option ℕ → Tables → ℕ → ℕ → Bool
 is_forced_off None t counter p = false
 is_forced_off (Some n) t counter p = not (is_coordinated t n p) && nat_le (force_point t n p) counter

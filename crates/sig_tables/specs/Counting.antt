@@ -1,11 +1,12 @@
--- The counter of a cycle, and how it is brought onto the offset (FHWA Signal Timing Manual, offset transition; the names dwell,
--- shortway and add only after NTCIP 1202; where the counter stands and skips, and the limits of a cycle, are this project's own).
--- The counters are those of the frames since the last pickup: a list with the newest first, the pickup's own 0 the last. All
--- times are in ticks.
+-- The counter of a cycle, and how it is brought onto the offset (FHWA Signal Timing Manual, offset transition; the
+-- names dwell, shortway and add only after NTCIP 1202; where the counter waits and skips, and the limits of a cycle,
+-- are this project's own). The counters are those of the frames since the last pickup: a list with the newest first,
+-- the pickup's own 0 the last. All times are in ticks.
 use Rattle.std.specs.Prelude.{ℕ, zero, suc, Bool, true, false, not, ◌+◌, ◌-◌, ◌*◌, ◌/◌, ◌%◌, ◌==◌, ◌&&◌, ◌||◌, ◌≤◌, ◌<◌, min, max, nat_le, if◌then◌else◌, List, [], ◌∷◌}
 
--- what the plan and the unit say of the correction: the cycle, the window after local zero in which the counter may be
--- corrected, the mode (2 dwell, 3 shortway, 4 add only), and the most that one cycle dwells, adds and subtracts
+-- what the plan and the unit say about the correction: the cycle, the window after local zero in which the counter may
+-- be corrected, the mode (2 dwell, 3 shortway, 4 add only), and how many ticks one cycle may dwell, add and subtract at
+-- most
 pub record Correction : Type 0 where
   pub cycle : ℕ
   pub window : ℕ
@@ -23,14 +24,14 @@ last_counter (c ∷ before) = c
 abbrev pub changes_to_zero : ℕ → ℕ → Bool
 changes_to_zero c before = c == 0 && not (before == 0)
 
--- how often the counter has stood still since it last changed to 0, or since the pickup
+-- how often the counter has waited since it last changed to 0, or since the pickup
 abbrev pub stands : List ℕ → ℕ
 stands [] = 0
 stands (c ∷ []) = 0
 stands (c ∷ b ∷ before) =
     if changes_to_zero c b then 0 else if c == b then stands (b ∷ before) + 1 else stands (b ∷ before)
 
--- how often it has gone on by 2 since then
+-- how often it has advanced by 2 since then
 abbrev pub skips : List ℕ → ℕ
 skips [] = 0
 skips (c ∷ []) = 0
@@ -53,31 +54,31 @@ begins_cycle (c ∷ b ∷ before) = changes_to_zero c b
 abbrev pub tick_later : ℕ → ℕ → ℕ
 tick_later cycle moment = (moment + 1) % cycle
 
--- how far the target would be ahead, round the cycle, if the counter went on from c as time does
+-- how far the target would be ahead, modulo the cycle, if the counter advanced from c by one tick at each tick
 abbrev pub ahead : ℕ → ℕ → ℕ → ℕ
 ahead cycle target c = (target + cycle - c - 1) % cycle
 
--- how many steps of at most `most` ticks make up an error of n ticks
+-- how many steps of at most `most` ticks correct an error of n ticks
 abbrev pub steps_for : ℕ → ℕ → ℕ
 steps_for n most = (n + most - 1) / most
 
--- shortway adds where that takes no more cycles than to subtract
+-- shortway adds if that takes no more cycles than subtracting
 abbrev pub adds_sooner : Correction → ℕ → Bool
 adds_sooner k error = nat_le (steps_for (k.cycle - error) k.add) (steps_for error k.subtract)
 
--- the counter stands still at local zero for up to `dwell` ticks a cycle
+-- the counter waits at local zero for up to `dwell` ticks a cycle
 abbrev pub dwelling : Correction → List ℕ → ℕ → ℕ
 dwelling k past c = if c == 0 && not (nat_le k.dwell (stands past)) then c else tick_later k.cycle c
 
--- the counter stands still at every second tick, up to `add` times a cycle
+-- the counter waits at every second tick, up to `add` times a cycle
 abbrev pub adding : Correction → List ℕ → ℕ → ℕ
 adding k past c = if last_step_changed past && not (nat_le k.add (stands past)) then c else tick_later k.cycle c
 
--- the counter goes on by 2, up to `subtract` times a cycle, and never past the window
+-- the counter advances by 2, up to `subtract` times a cycle, and never past the window
 abbrev pub skipping : Correction → List ℕ → ℕ → ℕ
 skipping k past c = if nat_le (c + 2) k.window && not (nat_le k.subtract (skips past)) then c + 2 else tick_later k.cycle c
 
--- the counter after c by the mode of correction, where the target is ahead by this error
+-- the counter after c by the mode of correction, if the target is ahead by this error
 abbrev pub corrected : Correction → List ℕ → ℕ → ℕ → ℕ
 corrected k past c error =
     if k.mode == 2 then dwelling k past c
@@ -85,7 +86,7 @@ corrected k past c error =
     else if k.mode == 3 then (if adds_sooner k error then adding k past c else skipping k past c)
     else tick_later k.cycle c
 
--- with no error, or outside the window, it goes on as time does
+-- without an error, or outside the window, it advances by one tick
 abbrev pub counter_after : Correction → List ℕ → ℕ → ℕ → ℕ
 counter_after k past c error =
     if error == 0 || nat_le k.window c then tick_later k.cycle c else corrected k past c error
@@ -94,7 +95,7 @@ counter_after k past c error =
 abbrev pub next_counter : Correction → List ℕ → ℕ → ℕ
 next_counter k past target = counter_after k past (last_counter past) (ahead k.cycle target (last_counter past))
 
--- the counters after n ticks more, where the target of the last frame is given and goes on as time does
+-- the counters after n ticks more, where the target of the last frame is given and continues as time does
 abbrev pub counted : Correction → ℕ → ℕ → List ℕ → List ℕ
 counted k zero target past = past
 counted k (suc n) target past =
@@ -118,8 +119,8 @@ needed k target =
     else if k.mode == 4 then steps_for ((k.cycle - target) % k.cycle) k.add
     else min (steps_for ((k.cycle - target) % k.cycle) k.add) (steps_for target k.subtract)
 
--- the correction has room: a mode that there is, limits of at least one tick, and a window that holds the stands and the
--- skips of one cycle and is shorter than the cycle
+-- the correction has room: a valid mode, limits of at least one tick, and a window that is long enough for the waits
+-- and the skips of one cycle and shorter than the cycle
 pub record HasRoom (k : Correction) : Type 0 where
   pub least_mode : 2 ≤ k.mode
   pub greatest_mode : k.mode ≤ 4

@@ -10,7 +10,7 @@ pub use Rattle.sig_tables.specs.TickState.{RingTurn, Rest, StartUp, Rings, Goal,
 pub use Rattle.sig_tables.specs.Walking.{walks_at_green, walk_begins}
 pub use Rattle.sig_tables.specs.Ticking.{moves_of, colour_after, signal_after, on_of, frame_of, colours_of, view_of, moment_with, moment_seeing, next_moment}
 
--- what has come before any event: the first moment, under the opening tables
+-- the past before any event: the first moment, under the opening tables
 abbrev pub opened : Tables → Past
 opened t = record {
   tables = t;
@@ -28,13 +28,13 @@ opened t = record {
 abbrev pub ticks_in : Past → ℕ
 ticks_in past = (last_moment past.tables past.moments).number
 
--- what has come with one moment more: nothing has been told since
+-- the past with one moment more: nothing has arrived since
 abbrev pub with_moment : Past → Moment → Past
 with_moment past m = record past { commanded = None; clock_set = None; heard = []; moments = m ∷ past.moments }
 
--- what has come with one event more: a tick gives a moment, an input is heard, a download puts tables in force; a command and a
--- clock set wait for the next tick, a priority request is live and a cancel counts at once, and a drift holds from the next tick
--- on
+-- the past with one event more: a tick gives a moment, an input is kept, a download puts tables in force; a command and
+-- a set clock take effect at the next tick; a priority request is live and a cancel takes effect at once; a drift holds
+-- from the next tick on
 abbrev pub with_event : Event → Past → Past
 with_event Tick past = with_moment past (next_moment past)
 with_event (Input field) past = record past { heard = record { tables = past.tables; field = field } ∷ past.heard }
@@ -45,7 +45,7 @@ with_event (Ask request) past = record past { asked = Given (ticks_in past) requ
 with_event (Cancel number) past = record past { asked = Cancelled (ticks_in past) number ∷ past.asked }
 with_event (SetDrift gain lose) past = record past { gain = gain; lose = lose }
 
--- what a list of events has come to, from these opening tables
+-- what a list of events has reached, from these opening tables
 abbrev pub past_of : Tables → List Event → Past
 past_of opening [] = opened opening
 past_of opening (e ∷ events) = with_event e (past_of opening events)
@@ -55,7 +55,8 @@ abbrev pub frames_in : List Moment → List Frame
 frames_in [] = []
 frames_in (m ∷ past) = m.frame ∷ frames_in past
 
--- the orders that a controller is opened with: its pattern is commanded and its clock is set before anything else comes
+-- the orders with which a controller is opened: its pattern is commanded and its clock is set before anything else
+-- arrives
 abbrev pub opening_commands : ℕ → ℕ → List Event
 opening_commands command clock = SetPattern command ∷ SetClock clock ∷ []
 
@@ -63,7 +64,7 @@ opening_commands command clock = SetPattern command ∷ SetClock clock ∷ []
 abbrev pub since_opening : History → List Event
 since_opening h = h.events ++ opening_commands h.command h.clock
 
--- what a history has come to
+-- what a history has reached
 abbrev pub past_at : History → Past
 past_at h = past_of h.tables (since_opening h)
 
@@ -75,7 +76,7 @@ frames h = frames_in (past_at h).moments
 abbrev pub last_frame_of : History → Frame
 last_frame_of h = last_frame (past_at h).moments
 
--- the frame that a tick now gives
+-- the frame that a tick gives next
 abbrev pub decide : History → Frame
 decide h = (next_moment (past_at h)).frame
 

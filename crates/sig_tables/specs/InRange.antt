@@ -9,7 +9,7 @@ use Rattle.sig_tables.specs.declared.tables.Tables.{Tables}
 use Rattle.sig_tables.specs.Tables.{listed, row, order_of}
 use Rattle.sig_tables.specs.Cells.{pattern_of, preempt_of, entry_of}
 
--- of a phase, but for its columns of volume density
+-- of a phase, except its columns of volume density
 pub record PhaseInRange (r : PhaseTimes) : Type 0 where
   pub walk : r.walk ≤ 255
   pub pedestrian_clear : r.pedestrian_clear ≤ 255

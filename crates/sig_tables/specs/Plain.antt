@@ -1,4 +1,4 @@
--- Ticks that are about Start and Free alone.
+-- Ticks that are only about Start and Free.
 use Rattle.std.specs.Prelude.{◌≡◌, ◌==◌, ◌&&◌, not, Bool, true, false, if◌then◌else◌, List, []}
 use Rattle.sig_types.specs.declared.frame.Field.{Field}
 use Rattle.sig_types.specs.declared.frame.Field.TheVariants.{Veh, Ped as Button, Preempt as PreemptInput}
@@ -23,7 +23,7 @@ is_plain Start = true
 is_plain Free = true
 is_plain _ = false
 
--- the mode of a tick by Start and Free alone
+-- the mode of a tick only by Start and Free
 abbrev pub plain_mode : List Moment → Mode
 plain_mode past = if is_start (last_frame past).mode && not (leaves_start past) then Start else Free
 
@@ -52,11 +52,11 @@ IsStreetEvent (Input field) = IsStreet field
 IsStreetEvent (SetDrift gain lose) = Unit {0}
 IsStreetEvent _ = ⊥
 
--- such events alone have come
+-- only such events have come
 abbrev pub OnlyStreet : List Event → Type 0
 OnlyStreet events = EachEvent (λ before e. IsStreetEvent e) events
 
--- where the event is a tick, it is about Start and Free alone
+-- where the event is a tick, it is only about Start and Free
 abbrev pub IsPlainAfter : Tables → List Event → Event → Type 0
 IsPlainAfter opening before Tick = RunsPlain (past_of opening before)
 IsPlainAfter opening before _ = Unit {0}

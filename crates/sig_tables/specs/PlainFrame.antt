@@ -1,4 +1,4 @@
--- The signals and the frame of a tick that is about Start and Free alone.
+-- The signals and the frame of a tick that is only about Start and Free.
 use Rattle.std.specs.Prelude.{ℕ, false, if◌then◌else◌, List, [], ◌∷◌, map}
 use Rattle.sig_types.specs.declared.frame.Colour.{Colour}
 use Rattle.sig_types.specs.declared.frame.Ped.{Ped}

@@ -52,7 +52,7 @@ exit_set t i = listed (preempt_of t i).exit_phases
 abbrev pub entry_set : Tables → ℕ → List ℕ
 entry_set t i = or_else (track_set t i) (dwell_set t i)
 
--- the input of preempt i has been on at each of so many last ticks, this one included
+-- the input of preempt i has been on at each of that many last ticks, this one included
 abbrev pub has_been_on : ℕ → ℕ → List ℕ → List Moment → Bool
 has_been_on ticks i on past = lasts_now ticks (is_in on i) (λ m. is_in m.preempts i) past
 
@@ -108,7 +108,7 @@ stage_after t (Dwell i) on past = if is_dwell_over t i on past then exit_from (e
 stage_after t (Exit i) on past = if has_reached (last_frame past) (exit_set t i) then None else exit_from (exit_set t i) i
 stage_after t mode on past = None
 
--- preempt j breaks into a frame of this mode: a lesser one into a stage, any one into what is no stage
+-- preempt j breaks into a frame of this mode: a smaller one into a stage, any one into what is not a stage
 abbrev pub breaks_in : ℕ → Mode → Bool
 breaks_in j mode = nat_le 1 j && (stage_of mode == 0 || nat_lt j (stage_of mode))
 

@@ -1,4 +1,4 @@
--- What a tick sees: the calls that stand, the demand, and which Green phases are quiet or opposed.
+-- What a tick sees: the calls that remain, the demand, and which Green phases are quiet or opposed.
 use Rattle.std.specs.Prelude.{ℕ, List, Option}
 use Rattle.sig_tables.specs.Past.{Past, Moment}
 use Rattle.sig_tables.specs.Looking.{last_frame, last_moment}

@@ -1,4 +1,4 @@
--- What a tick is about, before its calls and colours are looked at.
+-- The state of a tick before its calls and colours are computed.
 use Rattle.std.specs.Prelude.{ℕ, ◌+◌, Bool, if◌then◌else◌, List, [], ◌∷◌}
 use Rattle.sig_types.specs.declared.frame.Mode.{Mode}
 use Rattle.sig_types.specs.declared.frame.Mode.TheVariants.{Start, Free, Coord, Flash}
@@ -16,7 +16,8 @@ use Rattle.sig_tables.specs.Goals.{goal_in}
 use Rattle.sig_tables.specs.Counters.{counter_in}
 use Rattle.sig_tables.specs.Priority.{active_in}
 
--- what the rings do at a tick: nothing, begin the start-up phases, move by the rules of actuated control, or seek a goal
+-- what the rings do at a tick: nothing, begin the start-up phases, follow the rules of actuated control, or move to a
+-- goal
 pub data RingTurn : Type 0 where
   Rest : RingTurn
   StartUp : RingTurn
@@ -49,7 +50,7 @@ ring_turn_in t Free = Rings
 ring_turn_in t (Coord n) = Rings
 ring_turn_in t mode = Goal (goal_in t mode)
 
--- the turn after Start: these phases begin; where there are none it is the turn of the mode
+-- the turn after Start: these phases begin; if there are none, the turn is that of the mode
 abbrev pub first_ring_turn : List ℕ → RingTurn → RingTurn
 first_ring_turn [] ring_turn = ring_turn
 first_ring_turn (p ∷ ps) ring_turn = StartUp
@@ -64,7 +65,7 @@ ring_turn_from_start t mode = first_ring_turn (startup_phases t) (ring_turn_in t
 abbrev pub ring_turn_of : Tables → List Moment → Mode → RingTurn
 ring_turn_of t past mode = if is_start (last_frame past).mode then ring_turn_from_start t mode else ring_turn_in t mode
 
--- what a tick is about, in this mode
+-- the state of a tick in this mode
 abbrev pub tick_state_with : Past → ℕ → ℕ → ℕ → List ℕ → Mode → TickState
 tick_state_with past number clock command preempts mode = record {
   number = number;
@@ -79,12 +80,12 @@ tick_state_with past number clock command preempts mode = record {
   active = active_in past.tables mode number past.asked;
 }
 
--- the same, where the mode follows
+-- the same, if the mode is still to be chosen
 abbrev pub tick_state_told : Past → ℕ → ℕ → ℕ → List ℕ → TickState
 tick_state_told past number clock command preempts =
     tick_state_with past number clock command preempts (mode_sought past.tables past.version command preempts past.moments)
 
--- what the tick that comes now is about
+-- the state of the next tick
 abbrev pub tick_state_of : Past → TickState
 tick_state_of past =
     tick_state_told past

@@ -119,10 +119,10 @@ moment_with tick_state past tick_inputs moves = record {
 abbrev pub moment_seeing : TickState → Past → TickInputs → Moment
 moment_seeing tick_state past tick_inputs = moment_with tick_state past tick_inputs (moves_of tick_state.ring_turn (view_of tick_state past tick_inputs))
 
--- the moment of a tick that is about this
+-- the moment of a tick with this state
 abbrev pub moment_on : TickState → Past → Moment
 moment_on tick_state past = moment_seeing tick_state past (tick_inputs_of (bound tick_state.mode) past)
 
--- the moment that a tick now gives
+-- the moment that the next tick gives
 abbrev pub next_moment : Past → Moment
 next_moment past = moment_on (tick_state_of past) past

@@ -32,7 +32,7 @@ pub record View : Type 0 where
   pub opposed : List ℕ
   pub ended : List ℕ
 
--- Green for the minimum green that was in force at its first tick, and no walk or pedestrian clearance runs on
+-- Green for the minimum green that was in force at its first tick, while no walk or pedestrian clearance continues
 abbrev pub is_served : Tables → List Moment → ℕ → Bool
 is_served now past p =
     nat_le (least_green (latched p Green now past) p) (run p Green past)
@@ -48,24 +48,24 @@ has_gap v p =
 abbrev pub has_maximum : View → ℕ → Bool
 has_maximum v p = lasts_now (maximum_time v.tables p) (is_in v.opposed p) (λ m. is_in m.opposed p) v.past
 
--- force-offs float, and phase p fills its split of pattern n with its Green and its clearance
+-- floating force-offs: phase p fills its split of pattern n with its Green and its clearance
 abbrev pub has_filled_split : View → ℕ → ℕ → Bool
 has_filled_split v n p = if is_floating v.tables then has_floated v.tables n p (run p Green v.past) else false
 
--- the reasons to end a phase: gap or maximum; with a pattern gap, an active priority request or the floating time, and for a
--- phase that the pattern holds its release alone
+-- the reasons to end a phase: gap or maximum; with a pattern: gap, an active priority request or the floating time; and
+-- for a phase that the pattern holds: only its release
 abbrev pub is_reasoned : Option ℕ → View → ℕ → Bool
 is_reasoned None v p = has_gap v p || has_maximum v p
 is_reasoned (Some n) v p =
     if is_coordinated v.tables n p then is_released v.tables n v.counter v.active p
     else not (v.active == 0) || has_gap v p || has_filled_split v n p
 
--- a Green phase that there is a reason to end
+-- a Green phase that has a reason to end
 abbrev pub has_reason : View → ℕ → Bool
 has_reason v p =
     is_enabled v.tables p && same_colour (colour_of v.frame p) Green && is_reasoned (bound v.mode) v p
 
--- a Green phase that the pattern forces off, whatever else holds
+-- a Green phase that the pattern forces off, regardless of everything else
 abbrev pub is_forced : View → ℕ → Bool
 is_forced v p =
     is_enabled v.tables p && same_colour (colour_of v.frame p) Green && is_forced_off (bound v.mode) v.tables v.counter p
@@ -114,7 +114,7 @@ present_side v =
 abbrev pub present : View → ℕ → List ℕ
 present v r = ring_phases v.tables v.sequence (present_side v) r
 
--- those of these phases that come after the last one served; all of them where it is not among them
+-- those of these phases that come after the last one served; all of them if it is not among them
 abbrev pub later_in : List ℕ → ℕ → List ℕ
 later_in phases last = if is_in phases last then after last phases else phases
 

@@ -20,8 +20,8 @@ abbrev pub is_local_zero : Mode → ℕ → Frame → Bool
 is_local_zero (Coord n) counter f = counter == 0 && (not (f.counter == 0) || not (same_mode f.mode (Coord n)))
 is_local_zero mode counter f = false
 
--- what decides which walks begin at a tick: what the rings do, the tables in force, whether the frame is a local zero, the
--- pedestrian calls, and the Green phases to which an incompatible phase has demand
+-- what decides which walks begin at a tick: what the rings do, the tables in force, whether the frame is a local zero,
+-- the pedestrian calls, and the Green phases that a conflicting phase with demand opposes
 pub record Crossing : Type 0 where
   pub ring_turn : RingTurn
   pub tables : Tables

@@ -1,4 +1,4 @@
--- The items of a round's streams at a cabinet, apart from the memory in which they stand.
+-- The items of a round's streams at a cabinet, without the memory that holds them.
 use Rattle.std.specs.Prelude.{ℕ, List, [], ◌∷◌, map, replicate}
 use Rattle.arrayvec.specs.ArrayVec.{ArrayVec}
 use Rattle.sig_types.specs.declared.frame.Field.{Field}

@@ -1,4 +1,4 @@
--- What a cabinet has replied, and what of it stands on one stream.
+-- What a cabinet has replied, and what of it is on one stream.
 use Rattle.std.specs.Prelude.{ℕ, ◌==◌, if◌then◌else◌, List, [], ◌∷◌}
 
 -- a reply: the pass that brought the frame, and the octets

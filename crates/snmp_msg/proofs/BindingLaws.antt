@@ -16,7 +16,7 @@ use Rattle.snmp_msg.specs.declared.message.Bind.{Bind}
 use Rattle.snmp_msg.specs.Values.{IsValue, IsBinding}
 use Rattle.snmp_msg.specs.Reading.{octets_at, null_at, value_at, binding_at}
 
--- a text with nothing behind it
+-- a text with nothing after it
 pub alone : {A : Type 0} {IsText : List ℕ → A → Type 0} {read : List ℕ → Option (A × List ℕ)} → Exact IsText read
     → (text : List ℕ) (value : A) → IsText text value → read text ≡ Some (value, [])
 alone {read = read} exact text value is = ap read (sym (append-nil text)) ∙ exact.again text [] value is

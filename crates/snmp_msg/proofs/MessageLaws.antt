@@ -31,7 +31,7 @@ use Rattle.snmp_msg.proofs.BindingLaws.{alone, binding_exact, no_binding}
 abbrev made : List ℕ → Pdu → ℤ → ℤ → ℤ → List Bind → Message
 made community pdu id status index binds = record { community = record { items = community }; pdu = pdu; id = id; status = status; index = index; binds = record { items = binds } }
 
--- a PDU of a message with this community stands there, and then the rest
+-- a PDU of a message with this community is there, and then the rest
 record PduStands (community bytes rest : List ℕ) (m : Message) : Type 0 where
   text : List ℕ
   is : IsPdu text m
@@ -123,7 +123,7 @@ pdu_again text rest m is =
     let read = ap (λ (t : List ℕ). fields_at m.community.items m.pdu (t ++ rest)) (sym head) ∙ fields_again text rest m is in
     ap (λ (t : List ℕ). pdu_at m.community.items (t ++ rest)) head ∙ rw (kind_again m.pdu) read
 
--- what stands under a message's tag
+-- what is under a message's tag
 record MessageStands (content : List ℕ) (m : Message) : Type 0 where
   version : List ℕ
   community : List ℕ

@@ -6,11 +6,11 @@ use Rattle.snmp_msg.specs.declared.message.Message.{Message}
 use Rattle.snmp_msg.specs.Messages.{tag_of}
 use Rattle.snmp_msg.specs.Shortest.{ids_text}
 
--- what stands under a PDU's tag
+-- what is under a PDU's tag
 unfoldable pub pdu_around : Message → List ℕ → List ℕ
 pdu_around m list = ids_text m.id m.status m.index ++ tagged_text 48 list
 
--- what stands under the message's tag
+-- what is under the message's tag
 unfoldable pub content_around : Message → List ℕ → List ℕ
 content_around m list = integer_text (pos 0) ++ (tagged_text 4 m.community.items ++ tagged_text (tag_of m.pdu) (pdu_around m list))
 

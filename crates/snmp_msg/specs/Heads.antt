@@ -29,7 +29,7 @@ head_pdu_at (tag ∷ rest) = do
   pdu ← kind_of tag
   head_fields_at pdu (tag ∷ rest)
 
--- the head of what stands under a message's tag
+-- the head of what is under a message's tag
 unfoldable pub head_content_of : List ℕ → Option Head
 head_content_of content = do
   version ← integer_at content

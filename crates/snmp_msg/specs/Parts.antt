@@ -1,4 +1,4 @@
--- A message whose community and bindings stand elsewhere.
+-- A message whose community and bindings are elsewhere.
 use Rattle.snmp_msg.specs.declared.message.Parts.{Parts}
 use Rattle.snmp_msg.specs.declared.message.Message.{Message}
 

@@ -67,7 +67,7 @@ pdu_at community (tag ∷ rest) = do
   pdu ← kind_of tag
   fields_at community pdu (tag ∷ rest)
 
--- a message of what stands under its tag
+-- a message of what is under its tag
 unfoldable pub content_of : List ℕ → Option Message
 content_of content = do
   version ← integer_at content

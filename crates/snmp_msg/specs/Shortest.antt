@@ -17,7 +17,7 @@ value_text (Octets octets) = tagged_text 4 octets.items
 value_text Null = tagged_text 5 []
 value_text (Name name) = name_text name.items
 
--- what stands under a binding's tag
+-- what is under a binding's tag
 abbrev pub binding_content : Bind → List ℕ
 binding_content bind = name_text bind.name.items ++ value_text bind.value
 
@@ -29,11 +29,11 @@ binding_text bind = tagged_text 48 (binding_content bind)
 unfoldable pub ids_text : ℤ → ℤ → ℤ → List ℕ
 ids_text id status index = integer_text id ++ (integer_text status ++ integer_text index)
 
--- what stands under a PDU's tag
+-- what is under a PDU's tag
 unfoldable pub pdu_content : Message → List ℕ
 pdu_content m = ids_text m.id m.status m.index ++ tagged_text 48 (flat_map binding_text m.binds.items)
 
--- what stands under the message's tag
+-- what is under the message's tag
 unfoldable pub message_content : Message → List ℕ
 message_content m = integer_text (pos 0) ++ (tagged_text 4 m.community.items ++ tagged_text (tag_of m.pdu) (pdu_content m))
 

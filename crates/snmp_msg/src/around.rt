@@ -16,7 +16,7 @@ use ber_code::{
 };
 use sig_types::Octets;
 
-/// How many octets the contents of a binding's name take, and all that stands under the binding's tag.
+/// How many octets the contents of a binding's name take, and all that is under the binding's tag.
 fn bound_sizes(name: &Oid, value: &Value) -> (usize, usize)
     requires { IsWritableBind (record { name = name.now; value = value.now }) }
     ensures contents { result.0 ≡ length (name_octets name.now.items) }
@@ -54,7 +54,7 @@ fn put_list(list: &[u8], out: &mut Octets) -> Result<(), Full>
     }
 }
 
-/// The size of what stands under a PDU's tag.
+/// The size of what is under a PDU's tag.
 fn pdu_size(m: &Parts, list: &[u8]) -> usize
     requires { length list.now ≤ 1472 }
     ensures size { result ≡ length (pdu_around (message_in m.now) list.now) }
@@ -63,7 +63,7 @@ fn pdu_size(m: &Parts, list: &[u8]) -> usize
     ids_size(m.id, m.status, m.index) + tagged_size(list.len())
 }
 
-/// Puts what stands under a PDU's tag.
+/// Puts what is under a PDU's tag.
 #[tactic(auto, unfolding(crate::specs::Around::pdu_around))]
 fn put_pdu(m: &Parts, list: &[u8], out: &mut Octets) -> Result<(), Full>
     requires { length list.now ≤ 1472 }
@@ -74,7 +74,7 @@ fn put_pdu(m: &Parts, list: &[u8], out: &mut Octets) -> Result<(), Full>
     put_list(list, out)
 }
 
-/// The size of what stands under the message's tag, with the size of the PDU's content.
+/// The size of what is under the message's tag, with the size of the PDU's content.
 fn content_size(m: &Parts, list: &[u8], pdu: usize) -> usize
     requires pdu { pdu ≡ length (pdu_around (message_in m.now) list.now) }
     requires small { pdu ≤ 1496 }
@@ -84,7 +84,7 @@ fn content_size(m: &Parts, list: &[u8], pdu: usize) -> usize
     int_size(0) + tagged_size(m.community.len()) + tagged_size(pdu)
 }
 
-/// Puts what stands under the message's tag, with the size of the PDU's content.
+/// Puts what is under the message's tag, with the size of the PDU's content.
 #[tactic(auto, unfolding(crate::specs::Around::content_around))]
 fn put_content(m: &Parts, list: &[u8], pdu: usize, out: &mut Octets) -> Result<(), Full>
     requires pdu { pdu ≡ length (pdu_around (message_in m.now) list.now) }

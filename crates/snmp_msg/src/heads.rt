@@ -65,7 +65,7 @@ fn pdu_of(bytes: &[u8]) -> Option<(Head, &[u8])>
     }
 }
 
-/// Reads what stands under the message's tag.
+/// Reads what is under the message's tag.
 #[tactic(auto, unfolding(crate::specs::Heads::head_content_of))]
 fn content_of(content: &[u8]) -> Option<Head>
     ensures { result ≡ head_content_of content.now }

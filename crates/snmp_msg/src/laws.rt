@@ -11,7 +11,7 @@ pub fn messages_stand_alone()
     ensures { StandsAlone IsMessage }
 {}
 
-/// No text of a message has fewer octets than its shortest text, in a frame of whatever size.
+/// No text of a message has fewer octets than its shortest text, in a frame of any size.
 pub fn shortest_text_is_least()
     ensures { (text : List ℕ) (m : Message) → AreOctets text → IsFramed text m → length (shortest m) ≤ length text }
 {}

@@ -83,7 +83,7 @@ impl Message {
     }
 }
 
-/// A message to be written, whose community and bindings, at most 32, stand elsewhere.
+/// A message to be written, whose community and bindings, at most 32, are elsewhere.
 #[derive(Clone, Copy)]
 pub struct Parts<'a> {
     pub community: &'a ArrayVec<u8, 32>,

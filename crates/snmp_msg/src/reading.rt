@@ -136,7 +136,7 @@ fn pdu_into<'a>(bytes: &'a [u8], m: &mut Message) -> Option<&'a [u8]>
     }
 }
 
-/// Reads what stands under the message's tag.
+/// Reads what is under the message's tag.
 #[tactic(auto, unfolding(crate::specs::Reading::content_of))]
 fn content_into(content: &[u8], m: &mut Message) -> Option<()>
     requires community { array_vec_len m.old.community ≡ 0 }
@@ -173,7 +173,7 @@ fn message_into(bytes: &[u8], m: &mut Message) -> Option<()>
 pub fn read_into(bytes: &[u8], m: &mut Message) -> Option<()>
     requires community { array_vec_len m.old.community ≡ 0 }
     requires binds { array_vec_len m.old.binds ≡ 0 }
-    // What is read stood there.
+    // What is read was there.
     ensures found { OnSome result (IsMessage bytes.now m.new) }
     // Nothing is read only where no message is.
     ensures none { IfNone result ((other : Message) → IsMessage bytes.now other → ⊥) }
@@ -187,7 +187,7 @@ pub fn read_into(bytes: &[u8], m: &mut Message) -> Option<()>
 
 /// Reads the message that all of the octets are.
 pub fn read(bytes: &[u8]) -> Option<Message>
-    // What is read stood there.
+    // What is read was there.
     ensures found { IfSome result (λ m. IsMessage bytes.now m) }
     // Nothing is read only where no message is.
     ensures none { IfNone result ((m : Message) → IsMessage bytes.now m → ⊥) }

@@ -48,7 +48,7 @@ pub(crate) fn put_value(value: &Value, out: &mut Octets) -> Result<(), Full>
     }
 }
 
-/// The size of what stands under a binding's tag.
+/// The size of what is under a binding's tag.
 #[tactic(auto, unfolding(crate::specs::Shortest::binding_text))]
 fn binding_size(bind: &Bind) -> usize
     requires { IsWritableBind bind.now }
@@ -122,7 +122,7 @@ pub(crate) fn put_ids_of(m: &Parts, out: &mut Octets) -> Result<(), Full>
     put_ids(m.id, m.status, m.index, out)
 }
 
-/// The size of what stands under a PDU's tag, with the size of its list of bindings.
+/// The size of what is under a PDU's tag, with the size of its list of bindings.
 #[tactic(auto, unfolding(crate::specs::Shortest::pdu_content))]
 fn pdu_size(m: &Parts, list: usize) -> usize
     requires size { list ≡ length (flat_map binding_text m.now.binds.now) }
@@ -136,7 +136,7 @@ fn pdu_size(m: &Parts, list: usize) -> usize
     ids_size(m.id, m.status, m.index) + tagged_size(list)
 }
 
-/// Puts what stands under a PDU's tag, with the size of its list of bindings.
+/// Puts what is under a PDU's tag, with the size of its list of bindings.
 #[tactic(auto, unfolding(crate::specs::Shortest::pdu_content))]
 fn put_pdu(m: &Parts, list: usize, out: &mut Octets) -> Result<(), Full>
     requires writable { All IsWritableBind m.now.binds.now }
@@ -150,7 +150,7 @@ fn put_pdu(m: &Parts, list: usize, out: &mut Octets) -> Result<(), Full>
     put_bindings(m.binds, out)
 }
 
-/// Puts what stands under the message's tag, with the sizes of the PDU's content and of its list.
+/// Puts what is under the message's tag, with the sizes of the PDU's content and of its list.
 #[tactic(auto, unfolding(crate::specs::Shortest::message_content))]
 fn put_content(m: &Parts, pdu: usize, list: usize, out: &mut Octets) -> Result<(), Full>
     requires writable { All IsWritableBind m.now.binds.now }
@@ -167,7 +167,7 @@ fn put_content(m: &Parts, pdu: usize, list: usize, out: &mut Octets) -> Result<(
     put_pdu(m, list, out)
 }
 
-/// The size of what stands under the message's tag, with the size of the PDU's content.
+/// The size of what is under the message's tag, with the size of the PDU's content.
 #[tactic(auto, unfolding(crate::specs::Shortest::message_content))]
 fn content_size(m: &Parts, pdu: usize) -> usize
     requires pdu { pdu ≡ length (pdu_content (message_in m.now)) }

@@ -1,4 +1,5 @@
--- Where a download stage stands, and what it answers to each call: the first line that applies. Lists have the newest first.
+-- The state of a download stage, and what it answers to each call: the first line that applies. Lists have the newest
+-- first.
 use Rattle.std.specs.Prelude.{ℕ, ◌+◌, ◌==◌, nat_le, nat_lt, ◌&&◌, Bool, true, false, if◌then◌else◌, List, [], ◌∷◌, Option, Some, None, Result, Ok, Err}
 use Rattle.sig_types.specs.declared.notes.Broken.{Broken}
 use Rattle.sig_types.specs.declared.notes.StageAnswer.{StageAnswer}
@@ -10,7 +11,8 @@ use Rattle.stage_txn.specs.declared.StageState.TheVariants.{Rest, Open, Checked,
 use Rattle.stage_txn.specs.Calls.{Call, Begin, Part, Verify, Finish}
 use Rattle.stage_txn.specs.Calls.{Answered, Deed, Began, Took, Closed, Installed, Reopened, Idle, deeds, kept_by, taken_by, staged_by}
 
--- where the stage stands: what came last of a begin, a verify that found all well, a finish that installed or that refused
+-- the state of the stage: what came last of a begin, a verify that found all well, a finish that installed or that
+-- refused
 abbrev pub stage_state_by : List Deed → StageState
 stage_state_by [] = Rest
 stage_state_by (Began id in_force ∷ past) = Open
@@ -32,7 +34,7 @@ taken past = taken_by (deeds past)
 abbrev pub staged : List Answered → Tables
 staged past = staged_by (deeds past)
 
--- where the stage stands
+-- the state of the stage
 abbrev pub stage_state : List Answered → StageState
 stage_state past = stage_state_by (deeds past)
 
@@ -41,7 +43,7 @@ abbrev pub is_open : StageState → Bool
 is_open Open = true
 is_open _ = false
 
--- the number that tells where a stage stands: 1 normal, 2 transaction, 3 verify, 6 done
+-- the number of the state of a stage: 1 normal, 2 transaction, 3 verify, 6 done
 abbrev pub state_code : StageState → ℕ
 state_code Rest = 1
 state_code Open = 2
@@ -53,11 +55,11 @@ abbrev pub unless_broken : Result (Unit {0}) Broken → StageAnswer → StageAns
 unless_broken (Ok fit) answer = answer
 unless_broken (Err b) answer = Refused b
 
--- the first rule that the tables break beside those in force, if any
+-- the first rule that the tables break together with those in force, if any
 unfoldable pub first_broken : Tables → Tables → Bool → Result (Unit {0}) Broken
 first_broken t in_force flashing = first_of (broken t in_force flashing)
 
--- this answer, or the first rule that the tables break beside those in force
+-- this answer, or the first rule that the tables break together with those in force
 abbrev pub judged : Tables → Tables → Bool → StageAnswer → StageAnswer
 judged t in_force flashing answer = unless_broken (first_broken t in_force flashing) answer
 
@@ -65,14 +67,15 @@ judged t in_force flashing answer = unless_broken (first_broken t in_force flash
 abbrev pub begin_answer : ℕ → ℕ → StageAnswer
 begin_answer kept id = if id == kept then Repeated else if nat_lt id kept then WrongToken else Staged
 
--- to a part, where the stage stands so and has taken so many: one that was taken, the next one while it is open, or another
+-- to a part, where the stage is so and has taken that many: one that was taken, the next one while it is open, or
+-- another
 abbrev pub part_answer : StageState → ℕ → ℕ → StageAnswer
 part_answer stands taken number =
     if nat_le 1 number && nat_le number taken then Repeated
     else if is_open stands && number == taken + 1 then Staged
     else WrongPart (taken + 1)
 
--- to a verify of all parts or not, with the part that is due and the answer by the rules
+-- to a verify of all parts or not, with the expected part and the answer by the rules
 abbrev pub verify_answer : StageState → Bool → ℕ → StageAnswer → StageAnswer
 verify_answer Checked complete due by_rules = Repeated
 verify_answer Done complete due by_rules = Repeated
@@ -84,7 +87,8 @@ finish_answer Done by_rules = Repeated
 finish_answer Checked by_rules = by_rules
 finish_answer _ by_rules = NotVerified
 
--- the answer to a call after these: a part, a verify or a finish under another id than the kept one has the wrong token
+-- the answer to a call after these: a part, a verify or a finish under a different id from the kept one has the wrong
+-- token
 abbrev pub answer_to : List Answered → Call → StageAnswer
 answer_to past (Begin id in_force) = begin_answer (kept past) id
 answer_to past (Part id number cells) =

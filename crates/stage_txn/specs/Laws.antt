@@ -20,7 +20,7 @@ abbrev pub PartsComeInOrder : List Answered → Type 0
 PartsComeInOrder past =
     (id number : ℕ) (cells : List (Cell × Content)) → answer_to past (Part id number cells) ≡ Staged → IsNext past id number
 
--- the staged tables were verified, and break no rule beside these in force
+-- the staged tables were verified, and break no rule together with these in force
 pub record KeepsRules (past : List Answered) (id : ℕ) (in_force : Tables) (flashing : Bool) : Type 0 where
   pub same : id ≡ kept past
   pub stands : stage_state past ≡ Checked

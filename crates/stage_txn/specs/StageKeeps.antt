@@ -1,4 +1,4 @@
--- That a stage stands for the calls that were made of it.
+-- That a stage represents the calls that were made of it.
 use Rattle.std.specs.Prelude.{◌≡◌, List}
 use Rattle.stage_txn.specs.declared.Stage.{Stage}
 use Rattle.stage_txn.specs.Calls.{Call, Answered}
@@ -12,6 +12,6 @@ pub record StageKeeps (s : Stage) (past : List Answered) : Type 0 where
   pub stage_state : s.stage_state ≡ stage_state past
   pub last : s.last ≡ last_answer past
 
--- the stage stands for these calls, the newest first
+-- the stage represents these calls, the newest first
 abbrev pub StageStands : Stage → List Call → Type 0
 StageStands s calls = StageKeeps s (answered calls)

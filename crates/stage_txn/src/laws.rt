@@ -11,7 +11,7 @@ pub fn parts_come_in_order()
     ensures { (past : List Answered) → PartsComeInOrder past }
 {}
 
-/// Tables that are to be put in force were verified, and break no rule beside those in force then.
+/// Tables that are to be put in force were verified, and break no rule together with those in force then.
 pub fn installs_what_keeps_the_rules()
     ensures { (past : List Answered) → InstallsWhatKeepsRules past }
 {}

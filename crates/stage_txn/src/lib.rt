@@ -1,6 +1,6 @@
-//! The download stage of a cabinet (transactions after NTCIP 1201): where the parts of new tables are gathered before they
-//! are put in force as a whole. It keeps one copy of the tables, which is made when a download begins, and never changes
-//! those in force: it answers `Accepted` where its own are to take their place. Nothing here takes memory.
+//! The download stage of a cabinet (transactions after NTCIP 1201): where the parts of new tables are gathered before
+//! they are put in force as a whole. It keeps one copy of the tables, which is made when a download begins, and never
+//! changes those in force: it answers `Accepted` if its own tables should replace them. Nothing here takes memory.
 #![tactic(auto)]
 
 ghost use Rattle.std.specs.Prelude.{◌≡◌, ◌≤◌, List, [], ◌∷◌, Some, map};
@@ -15,7 +15,7 @@ pub use laws::{
     installs_what_keeps_the_rules, nothing_after_done, parts_come_in_order, staged_tables_in_range,
 };
 
-/// Where a stage stands: nothing was begun; parts are taken; all is verified; the tables were put in force.
+/// The state of a stage: nothing was begun; parts are taken; all is verified; the tables were put in force.
 #[derive(Clone, Copy, PartialEq, Eq)]
 pub enum StageState {
     Rest,
@@ -24,7 +24,7 @@ pub enum StageState {
     Done,
 }
 
-/// A cabinet's stage: the id of the last download that began, how many of its parts were taken, where it stands, the last
+/// A cabinet's stage: the id of the last download that began, how many of its parts were taken, where it is, the last
 /// answer, and the tables that the download comes to so far.
 #[derive(Drop)]
 pub struct Stage {
@@ -68,7 +68,7 @@ impl Stage {
         answer
     }
 
-    /// The first rule that the staged tables break beside those in force.
+    /// The first rule that the staged tables break together with those in force.
     #[tactic(auto, unfolding(crate::specs::Answers::first_broken))]
     fn judged(&self, in_force: &Tables, flashing: bool) -> Result<(), Broken>
         ensures { result ≡ first_broken self.now.tables in_force.now flashing }
@@ -183,7 +183,7 @@ impl Stage {
         &self.tables
     }
 
-    /// Where the stage stands: 1 normal, 2 transaction, 3 verify, 6 done.
+    /// The state of the stage: 1 normal, 2 transaction, 3 verify, 6 done.
     pub fn state(&self) -> u8
         ensures { (calls : List Call) → StageStands self.now calls → result ≡ state_code (stage_state (answered calls)) }
     {

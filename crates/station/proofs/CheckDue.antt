@@ -1,4 +1,4 @@
--- From what an answer to `check` tells to the answer that an input is due.
+-- From what an answer to `check` says to the answer expected for an input.
 use Rattle.std.proofs.Common.{◌≡◌, ◌≤◌, ◌<◌, ◌⊎◌, ◌∙◌, inl, inr, ℕ, List, Option, Some, None, IfSome, drop, length, subst, refl, sym, ap, arith}
 use Rattle.trace_check.specs.declared.faults.TraceFault.{TraceFault}
 use Rattle.trace_laws.specs.Traces.{IsTrace, IsCheckable}
@@ -28,7 +28,7 @@ trace_read left ends bytes slice all same short tells bands ended = record {
   ended = ended;
 }
 
--- a text that tells of a run is a trace
+-- a text that describes a run is a trace
 pub told_trace : (text : List ℕ) → TellsOfRun text → IsTrace text
 told_trace text tells = (tells.scenario, tells.journals, tells.told, tells.are, tells.text_is)
 

@@ -1,4 +1,4 @@
--- From what an answer to `run` tells to the answer that an input is due.
+-- From what an answer to `run` says to the answer expected for an input.
 use Rattle.std.proofs.Common.{◌≡◌, ◌<◌, ◌≤◌, ◌⊎◌, inl, inr, ℕ, List, Option, Some, None, IfSome, length, subst, refl, arith}
 use Rattle.scenario_data.specs.Content.{ScenarioContent}
 use Rattle.scenario_data.specs.declared.refusal.Refusal.{Refusal}
@@ -10,7 +10,8 @@ use Rattle.station.specs.Io.{io}
 use Rattle.station.specs.Answers.{IsShort, IsRead, IsRefused, Ran, RunAnswer, IsDue, IsLengthRefusal, WritesText}
 use Rattle.station.specs.Replied.{IsTextOfInput, Replied, ReplyAnswer, IsReplyDue}
 
--- what a refusal tells where nothing but it is the answer: the length's where the input is too long, and else a first fault
+-- what a refusal says where nothing but it is the answer: the length's where the input is too long, and else a first
+-- fault
 module _ (IsFirst : List ℕ → Refusal → Type 0) where
   refused_long : (refusal : Refusal) (input : List ℕ) (ends : Option (List ℕ)) → IsRefused IsFirst refusal (Some input) ends → 16777216 < length input
       → IsLengthRefusal (Scenario refusal)
@@ -29,7 +30,7 @@ read_short input s (bytes, same, short, is) = subst IsShort same short
 read_is : (input : List ℕ) (s : ScenarioContent) → IsRead (Some input) s → IsScenario input s
 read_is input s (bytes, same, short, is) = subst (λ (x : List ℕ). IsScenario x s) same is
 
--- a scenario is due the answer that it was run
+-- the answer expected for a scenario is that it was run
 due_run : (status : Status) (input : List ℕ) (s : ScenarioContent) (unwritten : Type 0) → IsRead (Some input) s → (¬ unwritten → status ≡ Done)
     → IsDue status input unwritten
 due_run status input s unwritten read done = record {
@@ -38,7 +39,7 @@ due_run status input s unwritten read done = record {
   done = λ short t is put. done put;
 }
 
--- a refusal is due
+-- a refusal is expected
 due_refused : (refusal : Refusal) (input : List ℕ) (ends : Option (List ℕ)) (unwritten : Type 0) → IsRefused IsFirstFault refusal (Some input) ends
     → IsDue (Scenario refusal) input unwritten
 due_refused refusal input ends unwritten is = record {
@@ -59,7 +60,7 @@ due workers ReadFault (Some input) ends unread old new unwritten ran sound = abs
 due workers WriteFault (Some input) ends unread old new unwritten ran sound = inl (due_run WriteFault input ran.1.scenario unwritten ran.1.input (λ put. absurd (put ran.0)))
 due workers NoMemory (Some input) ends unread old new unwritten ran sound = inr refl
 
--- what an answer to a run tells, and that it is due
+-- what an answer to a run says, and that it is expected
 pub run_answer : (workers : ℕ) (status : Status) (left ends : Option (List ℕ)) (unread : Type 0) (old new : Option (List ℕ)) (unwritten : Type 0)
     → Ran workers status (io left ends unread old new unwritten) → RunAnswer workers status (io left ends unread old new unwritten)
 run_answer workers status left ends unread old new unwritten ran = record {
@@ -111,7 +112,7 @@ module _ (Tells : List ℕ → List ℕ → Type 0) (IsFirst : List ℕ → Refu
       due = λ sound. reply_due status left ends unread old new unwritten is sound;
     }
 
--- an answer to a command that reads and writes so: a text was told, and written or not
+-- an answer to a command that reads and writes so: a text was reported, and written or not
 pub told_reply : (Tells : List ℕ → List ℕ → Type 0) (IsFirst : List ℕ → Refusal → Type 0) (status : Status) (left ends : Option (List ℕ)) (unread : Type 0)
     (old new : Option (List ℕ)) (unwritten : Type 0) (text : List ℕ) → IsTextOfInput Tells text left ends → WritesText status text unwritten old new
     → Replied Tells IsFirst status (io left ends unread old new unwritten)

@@ -1,4 +1,4 @@
--- From what an answer to `live` tells to the answer that an input is due.
+-- From what an answer to `live` says to the answer expected for an input.
 use Rattle.std.proofs.Common.{◌≡◌, ◌≤◌, ◌⊎◌, inl, inr, ℕ, List, Option, Some, None, IfSome, length, refl, ap, ◌∙◌, subst, arith}
 use Rattle.std.specs.Option.{option_map}
 use Rattle.scenario_data.specs.Causes.{Limit as LimitCause, Names}
@@ -31,7 +31,7 @@ no_fault_of_base line s refusal base (inr (other, is, fault)) =
     let its : IsOrderFault s refusal = subst (λ (x : ScenarioContent). IsOrderFault x refusal) same fault in
     none_named refusal (subst (λ (path : Option (List ℕ)). Names refusal (option_map LimitCause path)) (in_order s base.by_rounds) its)
 
--- a session is due the answer that it was opened
+-- the answer expected for a session is that it was opened
 due_session : (status : Status) (input : List ℕ) (s : ScenarioContent) (requests : List (List ℕ)) (unwritten : Type 0) → IsSession (Some input) s requests
     → (¬ unwritten → status ≡ Done) → IsLiveDue status (first_line input) unwritten
 due_session status input s requests unwritten is done =
@@ -42,7 +42,7 @@ due_session status input s requests unwritten is done =
       done = λ short t other put. done put;
     }
 
--- a refusal is due
+-- a refusal is expected
 due_refused : (refusal : Refusal) (input : List ℕ) (unwritten : Type 0) → IsLineRefused refusal (Some input) → IsLiveDue (Scenario refusal) (first_line input) unwritten
 due_refused refusal input unwritten (inl (limit, long)) = record {
   too_long = λ more. limit;
@@ -71,7 +71,7 @@ due WriteFault (Some input) ends unread old new unwritten lived sound =
     inl (due_session WriteFault input lived.1.scenario lived.1.requests unwritten lived.1.input (λ put. absurd (put lived.0)))
 due NoMemory (Some input) ends unread old new unwritten lived sound = inr refl
 
--- what an answer to `live` tells, and that it is due
+-- what an answer to `live` says, and that it is expected
 pub live_answer : (status : Status) (left ends : Option (List ℕ)) (unread : Type 0) (old new : Option (List ℕ)) (unwritten : Type 0)
     → Lived status (io left ends unread old new unwritten) → LiveAnswer status (io left ends unread old new unwritten)
 live_answer status left ends unread old new unwritten lived = record {

@@ -1,4 +1,4 @@
--- From what an answer to `overlaps` tells to the answer that an input is due.
+-- From what an answer to `overlaps` says to the answer expected for an input.
 use Rattle.std.proofs.Common.{◌≡◌, ◌⊎◌, inl, inr, ℕ, List, Option, Some, None, IfSome, subst, refl, sym, ap}
 use Rattle.overlap_run.specs.declared.faults.OverlapFault.{OverlapFault}
 use Rattle.command_words.specs.declared.command.Overlap.{Overlap}
@@ -31,7 +31,7 @@ pub of_input : (P : List ℕ → Type 0) (left : Option (List ℕ)) (bytes slice
 of_input P None bytes slice all same so = tt
 of_input P (Some input) bytes slice all same so = subst P all (subst P same so)
 
--- the text of the overlap was written, or a front of it
+-- the text of the overlap was written, or a prefix of it
 pub told_overlap : (asked : Overlap) (status : Status) (left ends : Option (List ℕ)) (unread : Type 0) (old new : Option (List ℕ)) (unwritten : Type 0) (text : List ℕ)
     → IsTextRead (λ bytes. TellsOverlap bytes asked text) left ends → WritesText status text unwritten old new
     → Overlapped asked status (io left ends unread old new unwritten)
@@ -54,7 +54,7 @@ written_done (BrokenOverlap fault) old new unwritten text so put = absurd so
 written_done ReadFault old new unwritten text so put = absurd so
 written_done NoMemory old new unwritten text so put = absurd so
 
--- the answer is the one that the input is due, or memory was wanting
+-- the answer is the one expected for the input, or memory ran out
 abbrev pub DueOrNone : Overlap → Status → Type 0 → List ℕ → Type 0
 DueOrNone asked status unwritten input = IsOverlapDue asked status input unwritten ⊎ (status ≡ NoMemory)
 
@@ -94,7 +94,7 @@ module _ (faultless : TracesHaveNoFault) (one : FaultsAreDetermined) (asked : Ov
         done = λ few trace none put. absurd (none fault breaks);
       })
 
-  -- want of memory is always told
+  -- lack of memory is always allowed as an answer
   pub due_none_left : (left : Option (List ℕ)) → IfSome left (DueOrNone asked NoMemory unwritten)
   due_none_left None = tt
   due_none_left (Some input) = inr refl

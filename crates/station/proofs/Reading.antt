@@ -7,7 +7,7 @@ use Rattle.station.specs.Bytes.{LeavesAfter}
 after_two : (bytes taken mid piece rest : List ℕ) → bytes ≡ taken ++ mid → mid ≡ piece ++ rest → bytes ≡ (taken ++ piece) ++ rest
 after_two bytes taken mid piece rest e f = e ∙ ap (λ m. taken ++ m) f ∙ sym (append_assoc taken piece rest)
 
--- after some bytes and a piece more, the source has left what comes behind so many bytes
+-- after some bytes and a piece more, the source has left what comes after that many bytes
 pub stopped_at : (old mid new : Option (List ℕ)) (taken piece : List ℕ) (n : ℕ) → LeavesAfter old mid taken → Reads mid new piece → n ≡ length (taken ++ piece)
     → IfSome old (λ bytes. new ≡ Some (drop n bytes))
 stopped_at None mid new taken piece n split more e = tt

@@ -22,7 +22,7 @@ use Rattle.station.specs.Answers.{WritesText}
 use Rattle.station.specs.Lived.{Lived, LivesShort}
 use Rattle.station.specs.Living.{AreAhead, IsAnswering, AnswersThis, AnswersNext, IsOpened, IsWhole, IsShortOf, Ends, StopsAtOpening}
 
--- the texts of answers, one list behind another
+-- the texts of answers, one list after another
 text-append : (xs ys : List Answer) → answers_text (xs ++ ys) ≡ answers_text xs ++ answers_text ys
 text-append [] ys = refl
 text-append (x ∷ xs) ys = ap (λ t. answer_text x ++ t) (text-append xs ys) ∙ sym (append_assoc (answer_text x) (answers_text xs) (answers_text ys))
@@ -48,7 +48,7 @@ some_ahead s h [] = some_answers (Lines (end_of_input_lines s h)) []
 some_ahead s h (line ∷ lines) =
     some_answers (answer_to s h line) (if is_over s (next_session s h line) then [] else answers_from s (next_session s h line) lines)
 
--- the requests of the input are some lines, and these behind them
+-- the requests of the input are some lines, and these after them
 pub record MoreAhead (left : Option (List ℕ)) (lines : List (List ℕ)) : Type 0 where
   pub more : List (List ℕ)
   pub all : IfSome left (λ input. lines ++ more ≡ requests_in input)
@@ -76,7 +76,7 @@ none_ahead (Some input) ahead lines (rest, told, are) none =
     let lacks = subst HasNoLine told none in
     sym (append-nil lines) ∙ ap (λ (ls : List (List ℕ)). lines ++ ls) (sym (whole_lines-none rest lacks)) ∙ sym are
 
--- one text behind another
+-- one text after another
 appends_then : (old mid new : Option (List ℕ)) (p q : List ℕ) → Appends old mid p → Appends mid new q → Appends old new (p ++ q)
 appends_then old mid new p q one two = two ∙ ap (λ (o : Option (List ℕ)). appended o q) one ∙ appended-appended old p q
 
@@ -105,7 +105,7 @@ module _ (s : ScenarioContent) where
   text_so lines more done h goes =
       ap (λ (xs : List Answer). answers_text (Lines (open_lines s) ∷ xs)) (goes more) ∙ text-append (Lines (open_lines s) ∷ done) (answers_from s h more)
 
-  -- nothing was asked yet: the answer to the scenario stands
+  -- nothing was asked yet: the answer to the scenario is pending
   pub at_opening : (left ahead old new : Option (List ℕ)) → AreAhead left ahead [] → Appends old new (answer_text (Lines (open_lines s)))
       → IsAnswering left ahead old new s opened_session
   at_opening left ahead old new asked written = record {
@@ -116,7 +116,7 @@ module _ (s : ScenarioContent) where
     written = subst (λ (t : List ℕ). Appends old new t) (sym (text-one (Lines (open_lines s)))) written;
   }
 
-  -- one more line is answered, and the session goes on
+  -- one more line is answered, and the session continues
   pub with_line : (left ahead behind old mid new : Option (List ℕ)) (h : SessionHistory) (line : List ℕ) → IsAnswering left ahead old mid s h
       → GivesLine ahead behind line → is_over s (next_session s h line) ≡ false → Appends mid new (answer_text (answer_to s h line))
       → IsAnswering left behind old new s (next_session s h line)
@@ -172,7 +172,7 @@ module _ (s : ScenarioContent) where
             (whole_front old new _ _ (some_ahead s h ahead_of.more) is.written);
       }
 
-  -- a front of the answer to a line was written
+  -- a prefix of the answer to a line was written
   pub short_in_line : (left ahead behind old mid new : Option (List ℕ)) (h : SessionHistory) (line : List ℕ) → IsAnswering left ahead old mid s h
       → GivesLine ahead behind line → AppendsFront mid new (answer_text (answer_to s h line)) → IsShortOf left old new s
   short_in_line left ahead behind old mid new h line is gives written =
@@ -186,7 +186,7 @@ module _ (s : ScenarioContent) where
             (front_then old mid new _ _ _ is.written written);
       }
 
-  -- a front of the answer to the end of the input was written
+  -- a prefix of the answer to the end of the input was written
   pub short_in_end : (left ahead old mid new : Option (List ℕ)) (h : SessionHistory) → IsAnswering left ahead old mid s h → HasNoLine ahead
       → AppendsFront mid new (answer_text (Lines (end_of_input_lines s h))) → IsShortOf left old new s
   short_in_end left ahead old mid new h is none written = record {
@@ -210,7 +210,7 @@ answers_long (Ok over) old new before behind text passes answers = λ s h stands
     let (line, next, long) = long_line before behind passes in inl (record { line = line; next = next; answers = answers s h line stands long })
 answers_long (Err status) old new before behind text passes answers = tt
 
--- one answer more: the session goes on, is over, or stopped short in the answer
+-- one answer more: the session continues, is over, or stopped short in the answer
 module _ (s : ScenarioContent) (h : SessionHistory) (session : Session) (left ahead behind old mid new : Option (List ℕ)) (text : List ℕ) where
   pub answer_on : (over : Bool) → IsAnswering left ahead old mid s h → AnswersNext over s h session ahead behind text → over ≡ false → Appends mid new text
       → (h_now : SessionHistory) × SessionStands session s h_now × IsAnswering left behind old new s h_now
@@ -234,7 +234,8 @@ module _ (s : ScenarioContent) (h : SessionHistory) (session : Session) (left ah
       short_in_line s left ahead behind old mid new h line.line is line.next (subst (λ (t : List ℕ). AppendsFront mid new t) line.answers.answer written)
   answer_short over is (inr end) written = short_in_end s left ahead old mid new h is end.none (subst (λ (t : List ℕ). AppendsFront mid new t) end.answer written)
 
--- the rest of a session ends with a fault of the source or for want of memory: no more than whole answers were written
+-- the rest of a session ends with a fault of the source or because memory ran out: no more than whole answers were
+-- written
 pub stopped_ends : (status : Status) (unread unwritten : Type 0) (left old new : Option (List ℕ)) (s : ScenarioContent) → ((status ≡ ReadFault) × unread) ⊎ (status ≡ NoMemory)
     → IsShortOf left old new s → Ends status unread unwritten left old new s
 stopped_ends status unread unwritten left old new s (inl (is, failed)) short = subst (λ (x : Status). Ends x unread unwritten left old new s) (sym is) (failed, short)
@@ -252,7 +253,7 @@ told_ends ReadFault text unread failed unwritten left old mid new s other since 
 told_ends WriteFault text unread failed unwritten left old mid new s other since told short = (since told.0, short told.1)
 told_ends NoMemory text unread failed unwritten left old mid new s other since told short = absurd told
 
--- with an answer behind which the session isn't over it is still under way
+-- with an answer after which the session isn't over it is still under way
 pub still_stands : (over : Bool) (s : ScenarioContent) (h : SessionHistory) (session : Session) (ahead behind : Option (List ℕ)) (text : List ℕ)
     → AnswersNext over s h session ahead behind text → over ≡ false → (h_now : SessionHistory) × SessionStands session s h_now
 still_stands over s h session ahead behind text (inl line) on = (next_session s h line.line, line.answers.stands on)
@@ -267,7 +268,7 @@ pub since_first : (status : Status) (unread since : Type 0) → (unread → sinc
 since_first status unread since wider (inl (is, failed)) = inl (is, wider failed)
 since_first status unread since wider (inr is) = inr is
 
--- where the answer to the scenario was not written whole, a front of it was
+-- where the answer to the scenario was not written whole, a prefix of it was
 pub opening_stops : (status : Status) (text : List ℕ) (failed : Type 0) (old new : Option (List ℕ)) (s : ScenarioContent) → (status ≡ Done → ⊥)
     → text ≡ answer_text (Lines (open_lines s)) → WritesText status text failed old new → StopsAtOpening status failed old new s
 opening_stops Done text failed old new s other same told = absurd (other refl)
@@ -282,7 +283,7 @@ opening_stops NoMemory text failed old new s other same told = absurd told
 pub opening_undone : (failed : Type 0) (old new : Option (List ℕ)) (s : ScenarioContent) (status : Status) → StopsAtOpening status failed old new s → status ≡ Done → ⊥
 opening_undone failed old new s status stops is = let told : StopsAtOpening Done failed old new s = subst (λ (x : Status). StopsAtOpening x failed old new s) is stops in told
 
--- the requests of the input, where the source tells its bytes
+-- the requests of the input, if the source reports its bytes
 requests_told : Option (List ℕ) → List (List ℕ)
 requests_told None = []
 requests_told (Some input) = requests_in input
@@ -292,7 +293,7 @@ unfolding requests_told
 are_told None = tt
 are_told (Some input) = refl
 
--- a front of the answer to the scenario is one of the whole session's text
+-- a prefix of the answer to the scenario is one of the whole session's text
 front_of_whole : (old new : Option (List ℕ)) (p q : List ℕ) → AppendsFront old new p → AppendsFront old new (p ++ q)
 front_of_whole old new p q (rest, some, (front, e, put)) =
     (rest ++ q, (λ none. some (empty_front rest q none)), (front, ap (λ (x : List ℕ). x ++ q) e ∙ append_assoc front rest q, put))
@@ -350,7 +351,7 @@ module _ (left ends behind old new : Option (List ℕ)) (s : ScenarioContent) (o
     ends_lived WriteFault unread since unwritten put wider more ended = (more ended.0, lived_short ended.1)
     ends_lived NoMemory unread since unwritten put wider more ended = inr (lived_short ended)
 
--- behind the first line all requests of the input are ahead
+-- after the first line all requests of the input are ahead
 pub ahead_at_first : (left ahead behind : Option (List ℕ)) (s : ScenarioContent) → IsOpened left behind s → ahead ≡ behind → AreAhead left ahead []
 ahead_at_first None ahead behind s opened same = tt
 ahead_at_first (Some input) ahead behind s opened same = (behind_first input, same ∙ opened.rest, refl)

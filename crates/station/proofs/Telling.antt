@@ -1,4 +1,4 @@
--- What an answer tells, by the words that asked for it.
+-- What an answer says, by the words that asked for it.
 use Rattle.std.proofs.Common.{◌≡◌, ◌⊎◌, inl, inr, ◌↔◌, ℕ, List, Option, Some, None, sym, subst}
 use Rattle.scenario_data.specs.declared.refusal.Refusal.{Refusal}
 use Rattle.trace_check.specs.declared.faults.TraceFault.{TraceFault}
@@ -158,7 +158,7 @@ module _ (status : Status) (io : Io) where
     broken_overlap = λ fault e. told_broken words c fault asked tells e;
   }
 
-  -- what an answer to the command that was found tells, by the words
+  -- what an answer to the command that was found says, by the words
   pub found_answers : (words : List (List ℕ)) (found : Option Command) (c : Command) → found ≡ Some c
       → ((d : Command) → (found ≡ Some d) ↔ AskFor words d) → Tells c status → Answers words status io
   found_answers words found c some is tells =
@@ -177,7 +177,7 @@ module _ (status : Status) (io : Io) where
         causes = causes words c ((is c).0 some) tells;
       }
 
--- the words ask for no command: the answer is Usage, and it tells of none
+-- the words ask for no command: the answer is Usage, and no command is named
 pub none_answers : (words : List (List ℕ)) (found : Option Command) (io : Io) → found ≡ None
     → ((d : Command) → (found ≡ Some d) ↔ AskFor words d) → Answers words Usage io
 none_answers words found io none is =

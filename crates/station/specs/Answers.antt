@@ -1,4 +1,4 @@
--- What each answer of the top call says of the words, the input, the output and the faults.
+-- What each answer of the top call says about the words, the input, the output and the faults.
 use Rattle.std.specs.Prelude.{◌≡◌, ◌≤◌, ◌<◌, ◌⊎◌, ℕ, List, Option, Some, IfSome, codes, drop, length, string_bytes}
 use Rattle.io_edge.specs.Edge.{Appends}
 use Rattle.scenario_data.specs.declared.refusal.Refusal.{Refusal}
@@ -14,7 +14,7 @@ use Rattle.run_definition.specs.Lines.{run_text}
 use Rattle.trace_laws.specs.Text.{TellsAllKept}
 use Rattle.whole_run.specs.Orders.{AreBroughtBy, GoesOnSerially, closed_text}
 
--- a text was written whole, or a write failed, and a front of the text was written and not all of it
+-- a text was written completely; or a write failed, and a proper prefix of the text was written
 abbrev pub WritesText : Status → List ℕ → Type 0 → Option (List ℕ) → Option (List ℕ) → Type 0
 WritesText Done text unwritten old new = Appends old new text
 WritesText WriteFault text unwritten old new = unwritten × AppendsFront old new text
@@ -28,14 +28,14 @@ IsShort input = length input ≤ 16777216
 abbrev pub IsRead : Option (List ℕ) → ScenarioContent → Type 0
 IsRead left s = (bytes : List ℕ) × AreInput left bytes × IsShort bytes × IsScenario bytes s
 
--- the input is no scenario
+-- the input is not a scenario
 abbrev pub IsNoScenario : List ℕ → Type 0
 IsNoScenario input = (s : ScenarioContent) → IsScenario input s → ⊥
 
--- a run by so many workers is done: the source, which had this left, was read to its end; its bytes are a scenario; with journals that
--- such workers may bring about, which without workers are the serial ones, the whole text of the run was appended to the sink; and by the
--- lines of this text every street is safe, versions are whole, the tables in force are those of whole accepted downloads, and
--- coordination is met
+-- a run by that many workers is done: the source, which had this left, was read to its end; its bytes are a scenario;
+-- with journals that such workers may bring about, which without workers are the serial ones, the whole text of the run
+-- was appended to the sink; and by the lines of this text every street is safe, versions are whole, the tables in force
+-- are those of whole accepted downloads, and coordination is met
 pub record RunsWhole (workers : ℕ) (left ends old new : Option (List ℕ)) : Type 0 where
   pub scenario : ScenarioContent
   pub journals : List (List (List ℕ))
@@ -45,9 +45,9 @@ pub record RunsWhole (workers : ℕ) (left ends old new : Option (List ℕ)) : T
   pub written : Appends old new (run_text scenario journals)
   pub kept : TellsAllKept scenario journals (run_text scenario journals)
 
--- it stopped short while it wrote: the source was read to its end, its bytes are a scenario, and a front of such a text was appended, and
--- not all of it: by some journals of the rounds that were closed and serial ones for those that are left; and where some are left,
--- nothing was written beyond the lines of the closed ones
+-- it stopped while it wrote: the source was read to its end, its bytes are a scenario, and a proper prefix of the text
+-- of such a run was appended. That run has some journals for the rounds that were closed and serial ones for those that
+-- are left; if some are left, nothing was written beyond the lines of the closed ones
 pub record StopsShort (workers : ℕ) (left ends old new : Option (List ℕ)) : Type 0 where
   pub scenario : ScenarioContent
   pub journals : List (List (List ℕ))
@@ -78,12 +78,13 @@ pub record HasFault (IsFirst : List ℕ → Refusal → Type 0) (refusal : Refus
   pub first : IsFirst bytes refusal
   pub ended : ends ≡ nothing_left left
 
--- why a refusal comes, and what it leaves of the input: its length, which has a refusal of its own; or else its first fault
+-- why an input is refused, and what is left of the input: its length, which has its own refusal; or else its first
+-- fault
 abbrev pub IsRefused : (List ℕ → Refusal → Type 0) → Refusal → Option (List ℕ) → Option (List ℕ) → Type 0
 IsRefused IsFirst refusal left ends =
     (IsLengthLimit refusal × IsTooLong left ends) ⊎ ((IsLengthLimit refusal → ⊥) × HasFault IsFirst refusal left ends)
 
--- what an answer to a run by so many workers tells of the input and the output
+-- what an answer to a run by that many workers says about the input and the output
 abbrev pub Ran : ℕ → Status → Io → Type 0
 Ran workers Done io = RunsWhole workers io.left io.ends io.old io.new
 Ran workers (Scenario refusal) io = IsRefused IsFirstFault refusal io.left io.ends × (io.new ≡ io.old)
@@ -101,13 +102,14 @@ IsLengthRefusal _ = ⊥
 abbrev pub NamesFault : (List ℕ → Refusal → Type 0) → Status → List ℕ → Type 0
 NamesFault IsFirst status input = (refusal : Refusal) × (status ≡ Scenario refusal) × IsFirst input refusal
 
--- the answer to `run` that an input is due, where no read fails: for too long an input, one that is no scenario, and a scenario
+-- the answer to `run` that is expected for an input if no read fails: for an input that is too long, for one that is
+-- not a scenario, and for a scenario
 pub record IsDue (status : Status) (input : List ℕ) (unwritten : Type 0) : Type 0 where
   pub too_long : 16777216 < length input → IsLengthRefusal status
   pub fault : IsShort input → IsNoScenario input → NamesFault IsFirstFault status input
   pub done : IsShort input → (s : ScenarioContent) → IsScenario input s → ¬ unwritten → status ≡ Done
 
--- what an answer to a run tells; and where no read fails it is the one that the input is due, or memory was wanting
+-- what an answer to a run says; if no read fails, it is the one expected for the input, or memory ran out
 pub record RunAnswer (workers : ℕ) (status : Status) (io : Io) : Type 0 where
   pub told : Ran workers status io
   pub due : ¬ io.unread → IfSome io.left (λ input. IsDue status input io.unwritten ⊎ (status ≡ NoMemory))

@@ -6,11 +6,11 @@ abbrev pub LeavesAfter : Option (List ℕ) → Option (List ℕ) → List ℕ �
 LeavesAfter None new taken = new ≡ None
 LeavesAfter (Some bytes) new taken = (rest : List ℕ) × (new ≡ Some rest) × (bytes ≡ taken ++ rest)
 
--- what a source that was read to its end has left: nothing, where it tells its bytes
+-- what is left in a source that was read to its end: nothing, if the source reports its bytes
 abbrev pub nothing_left : Option (List ℕ) → Option (List ℕ)
 nothing_left None = None
 nothing_left (Some bytes) = Some []
 
--- these bytes are the whole input, where the source tells what it has left
+-- these bytes are the whole input, if the source reports what it has left
 abbrev pub AreInput : Option (List ℕ) → List ℕ → Type 0
 AreInput left bytes = IfSome left (λ input. bytes ≡ input)

@@ -1,4 +1,4 @@
--- What an answer to `check` tells of the input and the faults of reading.
+-- What an answer to `check` says about the input and the faults of reading.
 use Rattle.std.specs.Prelude.{◌≡◌, ◌<◌, ◌⊎◌, ℕ, List, Option, Some, IfSome, drop, length}
 use Rattle.trace_check.specs.declared.faults.TraceFault.{TraceFault}
 use Rattle.trace_laws.specs.Traces.{IsTrace, IsCheckable}
@@ -10,9 +10,9 @@ use Rattle.station.specs.declared.status.Status.TheVariants.{Done, NotATrace, Re
 use Rattle.station.specs.Bytes.{AreInput, nothing_left}
 use Rattle.station.specs.Io.{Io}
 
--- the source was read to its end; its bytes are a trace, which has at most 67,108,864 bytes: the text of a run of a scenario with some
--- journals, by whose lines every street is safe, versions are whole, coordination is met, and a vehicle inside a through band meets green at
--- each cabinet that is in step
+-- the source was read to its end; its bytes are a trace, which has at most 67,108,864 bytes: the text of a run of a
+-- scenario with some journals, by whose lines every street is safe, versions are whole, coordination is met, and a
+-- vehicle inside a progression band meets green at each cabinet that is on offset
 pub record IsTraceRead (left ends : Option (List ℕ)) : Type 0 where
   pub bytes : List ℕ
   pub all : AreInput left bytes
@@ -21,7 +21,7 @@ pub record IsTraceRead (left ends : Option (List ℕ)) : Type 0 where
   pub bands : BandIsGreen bytes tells
   pub ended : ends ≡ nothing_left left
 
--- the input is too long for a trace: it was read to one byte past the limit
+-- the input is too long for a trace: it was read up to one byte beyond the limit
 abbrev pub IsTooLongText : Option (List ℕ) → Option (List ℕ) → Type 0
 IsTooLongText left ends = IfSome left (λ input. (67108864 < length input) × (ends ≡ Some (drop 67108865 input)))
 
@@ -33,11 +33,11 @@ pub record HasTraceFault (fault : TraceFault) (left ends : Option (List ℕ)) : 
   pub first : FirstFault bytes fault.line fault.rule
   pub ended : ends ≡ nothing_left left
 
--- why the input is no trace: its length, which is rule 1 at line 0; or its first fault
+-- why the input is not a trace: its length, which is rule 1 at line 0; or its first fault
 abbrev pub IsNoTrace : TraceFault → Option (List ℕ) → Option (List ℕ) → Type 0
 IsNoTrace fault left ends = ((fault ≡ record { line = 0; rule = 1 }) × IsTooLongText left ends) ⊎ HasTraceFault fault left ends
 
--- what an answer tells, with the faults of reading
+-- what an answer says, with the faults of reading
 abbrev pub Checked : Status → Option (List ℕ) → Option (List ℕ) → Type 0 → Type 0
 Checked Done left ends unread = IsTraceRead left ends
 Checked (NotATrace fault) left ends unread = IsNoTrace fault left ends
@@ -45,12 +45,12 @@ Checked ReadFault left ends unread = unread
 Checked NoMemory left ends unread = Unit {0}
 Checked _ left ends unread = ⊥
 
--- the answer that an input is due: a trace that is not too long is one, and every other text has its first fault
+-- the answer expected for an input: a trace that is not too long is one, and every other text has its first fault
 pub record IsCheckDue (status : Status) (input : List ℕ) : Type 0 where
   pub trace : IsCheckable input → IsTrace input → status ≡ Done
   pub fault : (fault : TraceFault) → FirstFault input fault.line fault.rule → status ≡ NotATrace fault
 
--- what an answer to `check` tells; and where no read fails it is the one that the input is due, or memory was wanting
+-- what an answer to `check` says; if no read fails, it is the one expected for the input, or memory ran out
 pub record CheckAnswer (status : Status) (io : Io) : Type 0 where
   pub told : Checked status io.left io.ends io.unread
   pub due : ¬ io.unread → IfSome io.left (λ input. IsCheckDue status input ⊎ (status ≡ NoMemory))

@@ -1,4 +1,4 @@
--- What an answer tells, command by command.
+-- What an answer says, command by command.
 use Rattle.std.specs.Prelude.{◌≡◌, ◌⊎◌, ℕ, List, Option}
 use Rattle.io_edge.specs.Edge.{Appends}
 use Rattle.trace_writer.specs.Bytes.{AppendsFront}
@@ -25,15 +25,15 @@ use Rattle.station.specs.Checked.{CheckAnswer}
 use Rattle.station.specs.Overlapped.{OverlapAnswer}
 use Rattle.station.specs.Lived.{IsLineRefused, LivesShort, LiveAnswer}
 
--- a text that the program makes was written whole; or a write failed, and a front of it was written and not all of it; or there was not
--- memory enough to make it, and nothing was written
+-- a text that the program makes was written completely; or a write failed, and a proper prefix of it was written; or
+-- there was not enough memory to make it, and nothing was written
 abbrev pub MakesText : Status → List ℕ → Type 0 → Option (List ℕ) → Option (List ℕ) → Type 0
 MakesText Done text unwritten old new = Appends old new text
 MakesText WriteFault text unwritten old new = unwritten × AppendsFront old new text
 MakesText NoMemory text unwritten old new = new ≡ old
 MakesText _ text unwritten old new = ⊥
 
--- what an answer to a command tells of the input and the output, and which answer is due
+-- what an answer to a command says about the input and the output, and which answer is expected
 abbrev pub Answered : Command → Status → Io → Type 0
 Answered (Run workers) status io = RunAnswer workers status io
 Answered Check status io = (io.new ≡ io.old) × CheckAnswer status io
@@ -56,7 +56,8 @@ ReadsNothing (Overlaps o) = ⊥
 ReadsNothing Live = ⊥
 ReadsNothing _ = Unit {0}
 
--- why a refusal comes: the words run a scenario, ask of bands, take a field file or open a session, and it is that of such an input
+-- why an input is refused: the words run a scenario, ask for bands, give a field file or open a session, and the
+-- refusal is one of such an input
 abbrev pub IsRefusedFor : List (List ℕ) → Refusal → Option (List ℕ) → Option (List ℕ) → Type 0
 IsRefusedFor words refusal left ends =
     (((workers : ℕ) × IsRun words workers) × IsRefused IsFirstFault refusal left ends)
@@ -75,10 +76,10 @@ LeavesRun words io = (workers : ℕ) × IsRun words workers × StopsShort worker
 abbrev pub NeedsNoInput : List (List ℕ) → Type 0
 NeedsNoInput words = (command : Command) × AskFor words command × ReadsNothing command
 
--- why an answer comes, whatever the words ask for. Want of memory: nothing was written, or a run or a session stopped short while it wrote. A
--- failed read: nothing was written, or a session stopped short. Each refusal: nothing was written; it names the first fault of the input that
--- `run`, `band` or `respond` read, or of the first line that `live` read; the path `.` with `Limit` is the input's or the line's length alone,
--- and no other fault has it.
+-- the cause of each answer, for any words. Out of memory: nothing was written, or a run or a session stopped while it
+-- wrote. A failed read: nothing was written, or a session stopped. Each refusal: nothing was written; it names the
+-- first fault of the input that `run`, `band` or `respond` read, or of the first line that `live` read. The path `.`
+-- with `Limit` means the length of the input or of the line, and no other fault has it.
 pub record Causes (words : List (List ℕ)) (status : Status) (io : Io) : Type 0 where
   pub no_memory : status ≡ NoMemory → (io.new ≡ io.old) ⊎ (LeavesRun words io ⊎ LeavesSession words io)
   pub read_fault : status ≡ ReadFault → io.unread × ((io.new ≡ io.old) ⊎ LeavesSession words io)
@@ -86,9 +87,10 @@ pub record Causes (words : List (List ℕ)) (status : Status) (io : Io) : Type 0
   pub no_trace : (fault : TraceFault) → status ≡ NotATrace fault → IsCheck words ⊎ ((o : Overlap) × IsOverlaps words o)
   pub broken_overlap : (fault : OverlapFault) → status ≡ BrokenOverlap fault → (o : Overlap) × IsOverlaps words o
 
--- what an answer tells, by the words. Help and version: the whole text was written, or a write failed and a front of it was. Generate: the
--- text of the scenario that these numbers give was, in the same way, or there was not memory enough to make it. Survey: the text of what a
--- run of that scenario comes to, counted in the lines of its trace in the serial order, was.
+-- what an answer says, by the words. Help and version: the whole text was written, or a write failed and a prefix of it
+-- was written. Generate: the same holds for the text of the scenario that these numbers give, or there was not enough
+-- memory to make it. Survey: the same holds for the totals of a run of that scenario, counted in the lines of its trace
+-- in the serial order.
 pub record Answers (words : List (List ℕ)) (status : Status) (io : Io) : Type 0 where
   pub help : IsHelp words → WritesText status HELP.now io.unwritten io.old io.new
   pub version : IsVersion words → WritesText status VERSION.now io.unwritten io.old io.new

@@ -4,8 +4,8 @@ use Rattle.io_edge.specs.Edge.{Rises, Stays}
 use Rattle.station.specs.declared.status.Status.{Status}
 use Rattle.station.specs.declared.status.Status.TheVariants.{Done}
 
--- the bytes that the source had left, and those it has left afterwards; whether a read failed; the bytes that were written to the sink
--- before, and those afterwards; whether a write failed. Bytes are None where they aren't told.
+-- the bytes that were left in the source before and afterwards; whether a read failed; the bytes that had been written
+-- to the sink before and afterwards; whether a write failed. Bytes are None if they aren't reported.
 pub record Io : Type 1 where
   pub left : Option (List ℕ)
   pub ends : Option (List ℕ)
@@ -17,12 +17,12 @@ pub record Io : Type 1 where
 abbrev pub io : Option (List ℕ) → Option (List ℕ) → Type 0 → Option (List ℕ) → Option (List ℕ) → Type 0 → Io
 io left ends unread old new unwritten = record { left = left; ends = ends; unread = unread; old = old; new = new; unwritten = unwritten }
 
--- by what a source and a sink of any kind tell: a call failed where the count of faults rose
+-- from what a source and a sink of any kind report: a call failed if the count of faults rose
 abbrev pub io_of : {S K : Type 0} → (S → Option (List ℕ)) → (S → ℕ) → (K → Option (List ℕ)) → (K → ℕ) → S → S → K → K → Io
 io_of left reads written writes source source_now sink sink_now =
     io (left source) (left source_now) (Rises (reads source) (reads source_now)) (written sink) (written sink_now) (Rises (writes sink) (writes sink_now))
 
--- no count of faults falls; and once all is done, an exact one is as it was, so that no fault was ignored
+-- no count of faults falls; and if the answer is Done, an exact count is unchanged, so that no fault was ignored
 pub record Counts (status : Status) (exact : Bool) (faults faults_now : ℕ) : Type 0 where
   pub kept : faults ≤ faults_now
   pub done : status ≡ Done → Stays exact faults faults_now

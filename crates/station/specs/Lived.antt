@@ -1,4 +1,4 @@
--- What an answer to `live` tells of the input and the output.
+-- What an answer to `live` says about the input and the output.
 use Rattle.std.specs.Prelude.{◌≡◌, ◌<◌, ◌⊎◌, ℕ, List, Option, IfSome, length}
 use Rattle.io_edge.specs.Edge.{Appends}
 use Rattle.trace_writer.specs.Bytes.{AppendsFront}
@@ -12,22 +12,25 @@ use Rattle.station.specs.declared.status.Status.TheVariants.{Done, Scenario, Rea
 use Rattle.station.specs.Io.{Io}
 use Rattle.station.specs.Answers.{IsShort, IsLengthLimit, IsLengthRefusal, NamesFault}
 
--- a line is a scenario with this content for a session: within the limit of 16,777,216 bytes, and by rounds
+-- a line is a scenario with this content for a session: it is within the limit of 16,777,216 bytes, and ordered by
+-- rounds
 pub record IsBase (line : List ℕ) (s : ScenarioContent) : Type 0 where
   pub short : IsShort line
   pub scenario : IsScenario line s
   pub by_rounds : IsByRounds s
 
--- the first line of the input is a scenario with this content, and its other lines are these requests, where the source tells its bytes
+-- the first line of the input is a scenario with this content, and its other lines are these requests, if the source
+-- reports its bytes
 pub record IsSession (left : Option (List ℕ)) (s : ScenarioContent) (requests : List (List ℕ)) : Type 0 where
   pub line : List ℕ
   pub first : IfSome left (λ input. line ≡ first_line input)
   pub base : IsBase line s
   pub asked : IfSome left (λ input. requests ≡ requests_in input)
 
--- a session is done: each request and the end of the input were answered, and the whole text of the answers was appended. The session is a run,
--- by its own journals, of the scenario that results, whatever the compact text of that; by its lines every street is safe, versions are whole,
--- the tables in force are those of whole accepted downloads, and coordination is met
+-- a session is done: each request and the end of the input were answered, and the whole text of the answers was
+-- appended. The session is a run, by its own journals, of the scenario that results, for any compact text of it; by its
+-- lines every street is safe, versions are whole, the tables in force are those of whole accepted downloads, and
+-- coordination is met
 pub record LivesWhole (left old new : Option (List ℕ)) : Type 0 where
   pub scenario : ScenarioContent
   pub requests : List (List ℕ)
@@ -35,7 +38,7 @@ pub record LivesWhole (left old new : Option (List ℕ)) : Type 0 where
   pub written : Appends old new (session_text scenario requests)
   pub run : (compact : List ℕ) → SessionIsRun scenario requests compact
 
--- it stopped short: a front of the text of the answers was appended, and not all of it
+-- it stopped: a proper prefix of the text of the answers was appended
 pub record LivesShort (left old new : Option (List ℕ)) : Type 0 where
   pub scenario : ScenarioContent
   pub requests : List (List ℕ)
@@ -46,7 +49,7 @@ pub record LivesShort (left old new : Option (List ℕ)) : Type 0 where
 abbrev pub IsTooLongLine : Option (List ℕ) → Type 0
 IsTooLongLine left = IfSome left (λ input. 16777216 < length (first_line input))
 
--- the first fault of a first line: that of a scenario, or the first item that doesn't stand by rounds
+-- the first fault of a first line: that of a scenario, or the first item that isn't by rounds
 abbrev pub IsFirstLineFault : List ℕ → Refusal → Type 0
 IsFirstLineFault line refusal = IsFirstFault line refusal ⊎ ((s : ScenarioContent) × IsScenario line s × IsOrderFault s refusal)
 
@@ -57,11 +60,11 @@ pub record HasLineFault (refusal : Refusal) (left : Option (List ℕ)) : Type 0 
   pub short : IsShort line
   pub fault : IsFirstLineFault line refusal
 
--- why a refusal comes: the length of the first line, which has a refusal of its own, or its first fault
+-- why the first line is refused: its length, which has its own refusal, or its first fault
 abbrev pub IsLineRefused : Refusal → Option (List ℕ) → Type 0
 IsLineRefused refusal left = (IsLengthLimit refusal × IsTooLongLine left) ⊎ ((IsLengthLimit refusal → ⊥) × HasLineFault refusal left)
 
--- what an answer to `live` tells of the input and the output
+-- what an answer to `live` says about the input and the output
 abbrev pub Lived : Status → Io → Type 0
 Lived Done io = LivesWhole io.left io.old io.new
 Lived (Scenario refusal) io = IsLineRefused refusal io.left × (io.new ≡ io.old)
@@ -70,17 +73,18 @@ Lived WriteFault io = io.unwritten × LivesShort io.left io.old io.new
 Lived NoMemory io = (io.new ≡ io.old) ⊎ LivesShort io.left io.old io.new
 Lived _ io = ⊥
 
--- the line is no scenario for a session
+-- the line is not a scenario for a session
 abbrev pub IsNoBase : List ℕ → Type 0
 IsNoBase line = (s : ScenarioContent) → IsBase line s → ⊥
 
--- the answer to `live` that an input is due, where no read fails: for too long a first line, one that is no scenario by rounds, and one that is
+-- the answer to `live` that is expected for an input if no read fails: for a first line that is too long, for one that
+-- is not a scenario ordered by rounds, and for one that is
 pub record IsLiveDue (status : Status) (line : List ℕ) (unwritten : Type 0) : Type 0 where
   pub too_long : 16777216 < length line → IsLengthRefusal status
   pub fault : IsShort line → IsNoBase line → NamesFault IsFirstLineFault status line
   pub done : IsShort line → (s : ScenarioContent) → IsBase line s → ¬ unwritten → status ≡ Done
 
--- what an answer to `live` tells; and where no read fails it is the one that the first line is due, or memory was wanting
+-- what an answer to `live` says; if no read fails, it is the one expected for the first line, or memory ran out
 pub record LiveAnswer (status : Status) (io : Io) : Type 0 where
   pub told : Lived status io
   pub due : ¬ io.unread → IfSome io.left (λ input. IsLiveDue status (first_line input) io.unwritten ⊎ (status ≡ NoMemory))

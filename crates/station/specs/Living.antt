@@ -1,4 +1,4 @@
--- What stands between two answers of `live`.
+-- What is between two answers of `live`.
 use Rattle.std.specs.Prelude.{◌≡◌, ◌⊎◌, ℕ, Bool, true, false, List, ◌∷◌, ◌++◌, Option, Some, None, IfSome}
 use Rattle.io_edge.specs.Edge.{Appends}
 use Rattle.trace_writer.specs.Bytes.{AppendsFront}
@@ -14,20 +14,20 @@ use Rattle.station.specs.declared.status.Status.{Status}
 use Rattle.station.specs.declared.status.Status.TheVariants.{Done, ReadFault, WriteFault, NoMemory}
 use Rattle.station.specs.Lived.{IsBase}
 
--- the first line of the input is a scenario with this content, and this is left behind it
+-- the first line of the input is a scenario with this content, and this is left after it
 pub record IsOpened (left behind : Option (List ℕ)) (s : ScenarioContent) : Type 0 where
   pub line : List ℕ
   pub first : IfSome left (λ input. line ≡ first_line input)
   pub base : IsBase line s
   pub rest : behind ≡ behind_told left
 
--- the requests of the input are these lines and then those that are still ahead, where the source tells its bytes
+-- the requests of the input are these lines and then those that are still ahead, if the source reports its bytes
 abbrev pub AreAhead : Option (List ℕ) → Option (List ℕ) → List (List ℕ) → Type 0
 AreAhead None ahead lines = Unit {0}
 AreAhead (Some input) ahead lines = (rest : List ℕ) × (ahead ≡ Some rest) × (requests_in input ≡ lines ++ whole_lines rest)
 
--- these lines of the input were answered, as by these answers, and the session has come to this by them: whatever lines are ahead, what is
--- answered to them is what the session answers from here on
+-- these lines of the input were answered by these answers, and the session has reached this state by them: for any
+-- lines that follow, their answers are what the session answers from here on
 pub record IsAnswering (left ahead old new : Option (List ℕ)) (s : ScenarioContent) (h : SessionHistory) : Type 0 where
   pub lines : List (List ℕ)
   pub done : List Answer
@@ -35,19 +35,19 @@ pub record IsAnswering (left ahead old new : Option (List ℕ)) (s : ScenarioCon
   pub goes : (rest : List (List ℕ)) → answers_from s opened_session (lines ++ rest) ≡ done ++ answers_from s h rest
   pub written : Appends old new (answers_text (Lines (open_lines s) ∷ done))
 
--- the text is the answer to a line, and the session has come to what is behind it; with the last round it is over
+-- the text is the answer to a line, and the session has reached what follows it; with the last round it is over
 pub record AnswersThis (over : Bool) (s : ScenarioContent) (h : SessionHistory) (session : Session) (line text : List ℕ) : Type 0 where
   pub answer : text ≡ answer_text (answer_to s h line)
   pub over_is : over ≡ is_over s (next_session s h line)
   pub stands : over ≡ false → SessionStands session s (next_session s h line)
 
--- that line is the next of the input
+-- that line is the next one of the input
 pub record AnswersLine (over : Bool) (s : ScenarioContent) (h : SessionHistory) (session : Session) (before behind : Option (List ℕ)) (text : List ℕ) : Type 0 where
   pub line : List ℕ
   pub next : GivesLine before behind line
   pub answers : AnswersThis over s h session line text
 
--- no line is ahead: the text is the answer to the end of the input, and the session is over
+-- no line follows: the text is the answer to the end of the input, and the session is over
 pub record AnswersEnd (over : Bool) (s : ScenarioContent) (h : SessionHistory) (before : Option (List ℕ)) (text : List ℕ) : Type 0 where
   pub none : HasNoLine before
   pub answer : text ≡ answer_text (Lines (end_of_input_lines s h))
@@ -56,7 +56,7 @@ pub record AnswersEnd (over : Bool) (s : ScenarioContent) (h : SessionHistory) (
 abbrev pub AnswersNext : Bool → ScenarioContent → SessionHistory → Session → Option (List ℕ) → Option (List ℕ) → List ℕ → Type 0
 AnswersNext over s h session before behind text = AnswersLine over s h session before behind text ⊎ AnswersEnd over s h before text
 
--- the whole text of the session of these requests was written, or a front of it and not all
+-- the whole text of the session of these requests was written, or a proper prefix of it
 pub record IsWhole (left old new : Option (List ℕ)) (s : ScenarioContent) : Type 0 where
   pub requests : List (List ℕ)
   pub asked : IfSome left (λ input. requests ≡ requests_in input)
@@ -75,13 +75,14 @@ Ends WriteFault unread unwritten left old new s = unwritten × IsShortOf left ol
 Ends NoMemory unread unwritten left old new s = IsShortOf left old new s
 Ends _ unread unwritten left old new s = ⊥
 
--- what is left where the session was not opened: a front of its first answer, or nothing for want of memory
+-- what is left where the session was not opened: a prefix of its first answer, or nothing because memory ran out
 abbrev pub StopsAtOpening : Status → Type 0 → Option (List ℕ) → Option (List ℕ) → ScenarioContent → Type 0
 StopsAtOpening WriteFault unwritten old new s = unwritten × AppendsFront old new (answer_text (Lines (open_lines s)))
 StopsAtOpening NoMemory unwritten old new s = new ≡ old
 StopsAtOpening _ unwritten old new s = ⊥
 
--- a session that has gone on from an earlier state of it: it is under way, and whatever the earlier state was answering it is answering now
+-- a session that has continued from an earlier state of it: it is under way, and still has to give the answers that the
+-- earlier state had to give
 pub record SessionGoesOn (from now : Session) (ahead_from ahead written_from written : Option (List ℕ)) : Type 0 where
   pub stands : (s : ScenarioContent) × (h : SessionHistory) × SessionStands now s h
   pub goes : (left old : Option (List ℕ)) (s : ScenarioContent) (h : SessionHistory) → SessionStands from s h → IsAnswering left ahead_from old written_from s h

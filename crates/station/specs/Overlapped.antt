@@ -1,4 +1,4 @@
--- What an answer to `overlaps` tells of the input and the output.
+-- What an answer to `overlaps` says about the input and the output.
 use Rattle.std.specs.Prelude.{◌≡◌, ◌⊎◌, ℕ, List, Option, IfSome}
 use Rattle.io_edge.specs.Edge.{Appends}
 use Rattle.trace_writer.specs.Bytes.{AppendsFront}
@@ -14,7 +14,7 @@ use Rattle.station.specs.Bytes.{AreInput, nothing_left}
 use Rattle.station.specs.Io.{Io}
 use Rattle.station.specs.Checked.{IsNoTrace}
 
--- the source was read to its end; its bytes have at most 67,108,864, and of them this is so
+-- the source was read to its end; it had at most 67,108,864 bytes, and this holds for them
 pub record IsTextRead (IsSo : List ℕ → Type 0) (left ends : Option (List ℕ)) : Type 0 where
   pub bytes : List ℕ
   pub all : AreInput left bytes
@@ -22,8 +22,9 @@ pub record IsTextRead (IsSo : List ℕ → Type 0) (left ends : Option (List ℕ
   pub so : IsSo bytes
   pub ended : ends ≡ nothing_left left
 
--- what an answer to `overlaps` tells: the input is a trace and the text of the overlap at its cabinet was written whole, or a write failed and
--- a front of it was; or the input is no trace, or the overlap breaks a rule there, and nothing was written
+-- what an answer to `overlaps` says: the input is a trace, and the text of the overlap at its cabinet was written
+-- completely, or a write failed and a prefix of it was written; or the input is not a trace, or the overlap breaks a
+-- rule there, and nothing was written
 abbrev pub Overlapped : Overlap → Status → Io → Type 0
 Overlapped asked Done io = (text : List ℕ) × IsTextRead (λ bytes. TellsOverlap bytes asked text) io.left io.ends × Appends io.old io.new text
 Overlapped asked (NotATrace fault) io = IsNoTrace fault io.left io.ends × (io.new ≡ io.old)
@@ -34,13 +35,14 @@ Overlapped asked WriteFault io =
 Overlapped asked NoMemory io = io.new ≡ io.old
 Overlapped asked _ io = ⊥
 
--- the answer that an input is due, where no read fails: one that is no trace has its first fault; at a trace the overlap breaks a rule, or it breaks none
+-- the answer expected for an input if no read fails: an input that is not a trace has its first fault; over a trace the
+-- overlap breaks a rule, or it breaks none
 pub record IsOverlapDue (asked : Overlap) (status : Status) (input : List ℕ) (unwritten : Type 0) : Type 0 where
   pub fault : (fault : TraceFault) → FirstFault input fault.line fault.rule → status ≡ NotATrace fault
   pub broken : (fault : OverlapFault) → IsCheckable input → BreaksRule input asked fault → status ≡ BrokenOverlap fault
   pub done : IsCheckable input → IsTrace input → ((fault : OverlapFault) → BreaksRule input asked fault → ⊥) → ¬ unwritten → status ≡ Done
 
--- what an answer to `overlaps` tells; and where no read fails it is the one that the input is due, or memory was wanting
+-- what an answer to `overlaps` says; if no read fails, it is the one expected for the input, or memory ran out
 pub record OverlapAnswer (asked : Overlap) (status : Status) (io : Io) : Type 0 where
   pub told : Overlapped asked status io
   pub due : ¬ io.unread → IfSome io.left (λ input. IsOverlapDue asked status input io.unwritten ⊎ (status ≡ NoMemory))

@@ -1,5 +1,5 @@
--- What an answer tells of a command that reads an object from the input and writes a text of it: what such a text is, and what the first
--- fault of such an input, is a matter of the command.
+-- What an answer says about a command that reads an object from the input and writes a text about it. Each command
+-- defines what such a text is, and what the first fault of such an input is.
 use Rattle.std.specs.Prelude.{◌≡◌, ◌<◌, ◌⊎◌, ℕ, List, Option, IfSome, length}
 use Rattle.io_edge.specs.Edge.{Appends}
 use Rattle.trace_writer.specs.Bytes.{AppendsFront}
@@ -24,13 +24,13 @@ pub record RepliesWhole (Tells : List ℕ → List ℕ → Type 0) (left ends ol
   pub of_input : IsTextOfInput Tells text left ends
   pub written : Appends old new text
 
--- a front of it was written, and not all of it
+-- a proper prefix of it was written
 pub record RepliesShort (Tells : List ℕ → List ℕ → Type 0) (left ends old new : Option (List ℕ)) : Type 0 where
   pub text : List ℕ
   pub of_input : IsTextOfInput Tells text left ends
   pub front : AppendsFront old new text
 
--- what an answer tells of the input and the output
+-- what an answer says about the input and the output
 abbrev pub Replied : (List ℕ → List ℕ → Type 0) → (List ℕ → Refusal → Type 0) → Status → Io → Type 0
 Replied Tells IsFirst Done io = RepliesWhole Tells io.left io.ends io.old io.new
 Replied Tells IsFirst (Scenario refusal) io = IsRefused IsFirst refusal io.left io.ends × (io.new ≡ io.old)
@@ -39,13 +39,14 @@ Replied Tells IsFirst WriteFault io = io.unwritten × RepliesShort Tells io.left
 Replied Tells IsFirst NoMemory io = io.new ≡ io.old
 Replied Tells IsFirst _ io = ⊥
 
--- the answer that an input is due, where no read fails: for too long an input, one that asks of nothing, and one that asks
+-- the answer expected for an input if no read fails: for an input that is too long, for one that is not valid, and for
+-- a valid one
 pub record IsReplyDue (Asks : List ℕ → Type 0) (IsFirst : List ℕ → Refusal → Type 0) (status : Status) (input : List ℕ) (unwritten : Type 0) : Type 0 where
   pub too_long : 16777216 < length input → IsLengthRefusal status
   pub fault : IsShort input → (Asks input → ⊥) → NamesFault IsFirst status input
   pub done : IsShort input → Asks input → ¬ unwritten → status ≡ Done
 
--- what an answer tells; and where no read fails it is the one that the input is due, or memory was wanting
+-- what an answer says; if no read fails, it is the one expected for the input, or memory ran out
 pub record ReplyAnswer (Tells : List ℕ → List ℕ → Type 0) (Asks : List ℕ → Type 0) (IsFirst : List ℕ → Refusal → Type 0) (status : Status) (io : Io) : Type 0 where
   pub told : Replied Tells IsFirst status io
   pub due : ¬ io.unread → IfSome io.left (λ input. IsReplyDue Asks IsFirst status input io.unwritten ⊎ (status ≡ NoMemory))

@@ -1,4 +1,4 @@
-//! The command that reads what is asked of through bands and writes the greatest.
+//! The command `band`: it reads a question about progression bands and writes the widest ones.
 
 ghost use Rattle.band_report.specs.BandAnswer.{AsksOfBands, TellsBands, IsFirstBandFault};
 ghost use Rattle.station.specs.Io.{io_of, Counts};
@@ -12,7 +12,7 @@ use io_edge::{Sink, Source};
 use scenario_data::ReadFail;
 use std::alloc::Global;
 
-/// Reads what is asked of the bands of a street, and writes the greatest.
+/// Reads a question about the bands of a street, and writes the widest ones.
 pub fn band<S: Source, K: Sink>(alloc: Global, source: &mut S, sink: &mut K) -> Status
     ensures answered { ReplyAnswer TellsBands AsksOfBands IsFirstBandFault result
         (io_of S.left S.faults K.written K.faults source.old source.new sink.old sink.new) }

@@ -18,7 +18,7 @@ pub enum ReadEnd {
 /// How many bytes are asked for at a time.
 const PIECE: usize = 4096;
 
-/// The next bytes of a source, at most so many, at the front of the buffer.
+/// The next bytes of a source, at most that many, at the front of the buffer.
 fn read_most<S: Source>(source: &mut S, buf: &mut [u8], most: usize) -> Result<usize, Failed>
     requires some { 0 < most }
     requires room { 0 < length buf.old }

@@ -16,7 +16,7 @@ use trace_laws::{faults_are_determined, traces_have_no_fault};
 /// The most bytes that a trace has.
 pub(crate) const TRACE_LIMIT: usize = 67_108_864;
 
-/// Reads a text, and tells whether it is a trace.
+/// Reads a text, and answers whether it is a trace.
 pub fn check_input<S: Source>(alloc: Global, source: &mut S) -> Status
     ensures checked { Checked result (S.left source.old) (S.left source.new) (Rises (S.faults source.old) (S.faults source.new)) }
     ensures due { ¬ Rises (S.faults source.old) (S.faults source.new)

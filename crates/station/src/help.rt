@@ -1,4 +1,4 @@
-//! What the program says of itself.
+//! The texts of `--help` and `--version`.
 
 /// How to use the program: its commands, what each reads and writes, its exit statuses, and the documents.
 pub const HELP: &str = "\
@@ -74,5 +74,5 @@ docs/FIELD-FILE.md field files, docs/BANDS.md bands, docs/TRACE.md traces;
 scenarios/ has examples to run; README.md says what is proved.
 ";
 
-/// Which program this is.
+/// The name and the version of the program.
 pub const VERSION: &str = "arterial 0.8\n";

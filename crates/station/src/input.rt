@@ -14,7 +14,7 @@ use std::alloc::Global;
 /// The most bytes that a scenario has.
 pub(crate) const SCENARIO_LIMIT: usize = 16_777_216;
 
-/// Why there is nothing to work on.
+/// Why the input wasn't read as a whole.
 pub enum Unread {
     Fault,
     Refused(Refusal),

@@ -1,5 +1,5 @@
-//! All that the program does: it tells its words apart, reads its input, has the work done, and
-//! answers. `station` is the top call: each of its answers has its cause in its contract.
+//! All that the program does: it recognises the command in its words, reads its input, carries the command out, and
+//! answers. `station` is the top call; its contract gives the cause of each answer.
 #![tactic(auto)]
 
 mod asking;

@@ -1,4 +1,6 @@
-//! What `live` does: the first line of the input is a scenario, and each line behind it a request, which is answered before more is read.
+//! What `live` does: the first line of the input is a scenario, and each line after it is a request. Each line is
+//! answered by one text. The contracts say which text, and that the reader reads only while it has no whole line; the
+//! order of reads and writes is not part of any contract.
 
 ghost use Rattle.std.specs.Prelude.{◌≡◌, ◌≤◌, ◌<◌, ◌⊎◌, ℕ, List, [], true, length, Option, Err, IfOk, OnOk};
 ghost use Rattle.io_edge.specs.Edge.{Rises, Stays, Appends};
@@ -27,7 +29,8 @@ use session_words::{FirstStop, LineReader, LineStop, Next};
 use sig_types::NoMemory;
 use std::alloc::Global;
 
-/// The scenario that the first line of the input is: one that `run` takes, and whose loads and priority requests stand by rounds.
+/// The scenario in the first line of the input: one that `run` accepts, and whose loads and priority requests are
+/// ordered by rounds.
 fn base<S: Source>(
     alloc: Global,
     reader: &mut LineReader,
@@ -59,7 +62,7 @@ fn base<S: Source>(
     }
 }
 
-/// A session, the reader of its lines, and the text of the answer at hand.
+/// A session, the reader of its lines, and the text of the answer that is being made.
 #[derive(Drop)]
 struct Dialogue {
     alloc: Global,
@@ -87,7 +90,7 @@ impl Dialogue {
         }
     }
 
-    /// Makes the answer to a line of more than 4,096 octets, with which no session is over.
+    /// Makes the answer to a line of more than 4,096 octets; it never ends a session.
     fn answer_long(&mut self) -> Result<bool, Status>
         requires empty { self.old.answer.items ≡ [] }
         ensures reader { self.new.reader ≡ self.old.reader }
@@ -101,7 +104,7 @@ impl Dialogue {
         }
     }
 
-    /// Makes the answer to the end of the input, with which the session is over.
+    /// Makes the answer to the end of the input, which ends the session.
     fn answer_end(&mut self) -> Result<bool, Status>
         requires stands { (s : ScenarioContent) × (h : SessionHistory) × SessionStands self.old.session s h }
         requires empty { self.old.answer.items ≡ [] }
@@ -137,7 +140,7 @@ impl Dialogue {
         }
     }
 
-    /// Answers the lines that are still to come, one after another, and the end of the input.
+    /// Answers the lines that follow, one after another, and the end of the input.
     fn go_on<S: Source, K: Sink>(&mut self, source: &mut S, sink: &mut K) -> Status
         requires stands { (s : ScenarioContent) × (h : SessionHistory) × SessionStands self.old.session s h }
         ensures ends { (left old : Option (List ℕ)) (s : ScenarioContent) (h : SessionHistory) → SessionStands self.old.session s h
@@ -163,7 +166,7 @@ impl Dialogue {
     }
 }
 
-/// Opens the session of a scenario, and answers it.
+/// Opens the session of a scenario, and writes the answer to the scenario.
 fn opened<K: Sink>(
     alloc: Global,
     reader: LineReader,
@@ -195,7 +198,7 @@ fn opened<K: Sink>(
     }
 }
 
-/// Answers the scenario that the first line of the input is, and the requests behind it.
+/// Answers the scenario in the first line of the input, and the requests after it.
 pub fn live<S: Source, K: Sink>(alloc: Global, source: &mut S, sink: &mut K) -> Status
     ensures answered { LiveAnswer result (io_of S.left S.faults K.written K.faults source.old source.new sink.old sink.new) }
     ensures reads { Counts result S.counts_exactly (S.faults source.old) (S.faults source.new) }

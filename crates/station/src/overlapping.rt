@@ -16,7 +16,7 @@ use std::alloc::Global;
 use trace_check::{CheckFail, TraceFault, observe};
 use trace_laws::{faults_are_determined, traces_have_no_fault};
 
-/// Reads a text, and writes what an overlap shows over the trace that it is.
+/// Reads a text, and, if it is a trace, writes what an overlap shows over it.
 pub fn overlaps<S: Source, K: Sink>(
     alloc: Global,
     overlap: Overlap,

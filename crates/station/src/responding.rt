@@ -1,4 +1,4 @@
-//! The command that reads a field file and writes the scenario that it comes to.
+//! The command `respond`: it reads a field file and writes the resulting scenario.
 
 ghost use Rattle.field_file.specs.FieldAnswer.{HasResult, TellsResult, IsFirstResultFault};
 ghost use Rattle.station.specs.Io.{io_of, Counts};
@@ -12,7 +12,7 @@ use io_edge::{Sink, Source};
 use scenario_data::ReadFail;
 use std::alloc::Global;
 
-/// Reads a field file, and writes the scenario that it comes to, as compact text with a newline.
+/// Reads a field file, and writes the resulting scenario as compact text with a newline.
 pub fn respond<S: Source, K: Sink>(alloc: Global, source: &mut S, sink: &mut K) -> Status
     ensures answered { ReplyAnswer TellsResult HasResult IsFirstResultFault result
         (io_of S.left S.faults K.written K.faults source.old source.new sink.old sink.new) }

@@ -9,18 +9,19 @@ use trace_check::TraceFault;
 pub enum Status {
     /// All was read, done and written.
     Done,
-    /// The words are no command.
+    /// The words are not a command.
     Usage,
-    /// The input is too long, or is no scenario: the first fault, and nothing was written.
+    /// The input is too long, or is not a scenario: the first fault, and nothing was written.
     Scenario(Refusal),
-    /// The input is no trace: the first line with which no trace goes on, and the rule that it breaks; line 0 where it is too long.
+    /// The input is not a trace: the first line with which no trace continues, and the rule that it breaks; line 0
+    /// where it is too long.
     NotATrace(TraceFault),
     /// The overlap breaks a rule at the cabinet of the trace: the first that it breaks, and nothing was written.
     Overlap(OverlapFault),
-    /// A read failed, and nothing was written; of a session, a front of its answers.
+    /// A read failed, and nothing was written; of a session, a prefix of its answers.
     ReadFault,
-    /// A write failed: a front of the text was written, and not all of it.
+    /// A write failed: a prefix of the text was written, and not all of it.
     WriteFault,
-    /// There was not memory enough: nothing was written, or a front of the text and not all of it.
+    /// There was not memory enough: nothing was written, or a prefix of the text and not all of it.
     NoMemory,
 }

@@ -1,4 +1,4 @@
-//! The commands that read nothing: texts that the program makes, and those that it says of itself.
+//! The commands that read nothing: generated scenarios, totals, help and version.
 
 ghost use Rattle.io_edge.specs.Edge.{Rises};
 ghost use Rattle.gen_arterial.specs.Written.{CanMake, generated, generated_text};
@@ -28,7 +28,7 @@ pub fn tell<K: Sink>(sink: &mut K, text: &[u8]) -> Status
     }
 }
 
-/// Writes the scenario that is generated from these.
+/// Writes the scenario that is generated from these numbers.
 pub fn generate<K: Sink>(alloc: Global, from: Seeding, sink: &mut K) -> Status
     requires { CanMake from.cabinets from.rounds }
     ensures makes { MakesText result (generated_text from.seed from.cabinets from.rounds) (Rises (K.faults sink.old) (K.faults sink.new))
@@ -41,7 +41,7 @@ pub fn generate<K: Sink>(alloc: Global, from: Seeding, sink: &mut K) -> Status
     }
 }
 
-/// Writes what a run of the scenario that is generated from these comes to.
+/// Writes the totals of a run of the scenario that is generated from these numbers.
 pub fn survey<K: Sink>(alloc: Global, from: Seeding, sink: &mut K) -> Status
     requires { CanMake from.cabinets from.rounds }
     ensures makes { MakesText result (surveyed_text (generated from.seed from.cabinets from.rounds)) (Rises (K.faults sink.old) (K.faults sink.new))

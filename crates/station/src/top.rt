@@ -31,7 +31,7 @@ use trace_laws::run_texts_are_safe;
 use trace_writer::Stop;
 use whole_run::{Crew, write_trace};
 
-/// The scenario that the whole input is. The memory of the input's bytes is given back.
+/// Reads the whole input as a scenario. The memory of the input's bytes is given back.
 fn read_scenario<S: Source>(alloc: Global, source: &mut S) -> Result<Scenario, Unread>
     ensures scenario { IfOk result (λ s. IsRead (S.left source.old) (scenario_content s)) }
     ensures runnable { IfOk result (λ s. Runnable (scenario_content s)) }
@@ -75,7 +75,7 @@ fn run<R: Threads + Sync, S: Source, K: Sink, G: Gate + Sync>(
     }
 }
 
-/// Has a command carried out.
+/// Carries out a command.
 fn answer<R: Threads + Sync, S: Source, K: Sink, G: Gate + Sync>(
     rt: &R,
     alloc: Global,
@@ -108,18 +108,17 @@ fn answer<R: Threads + Sync, S: Source, K: Sink, G: Gate + Sync>(
 
 /// All that the program does: `run` reads a scenario from the source and writes its trace to the sink; `check` reads a
 /// text and answers whether it is a trace; `overlaps` reads a trace, and writes what an overlap shows over it; `live`
-/// reads a scenario and requests, line by line, and answers each before it reads on; `band` reads a band file, and
-/// writes its widest bands; `respond` reads a field file, and writes the scenario that its detectors and its traffic
-/// make; `generate` writes a scenario, `survey` the totals of its run, `--help` and `--version` a text, and they read
-/// nothing.
-///
-/// The arguments are those after the program's name. `run --workers N`, N 0 to 8, has N workers bring the items of each
-/// round to the cabinets, each worker in a thread of its own if one can be started; with 0, as without the option, they
-/// come in the serial order. Each worker calls the gate before each act, but not in a round in which no other order
-/// exists: with one worker, or with items of one pass only at each cabinet. A scenario, or what `band` or `respond`
-/// reads, has at most 16,777,216 bytes, as has the first line that `live` reads; a trace has at most 67,108,864. The
-/// answer may be `NoMemory` wherever memory is taken; of every other answer the clauses say what it means for the input
-/// and the faults.
+/// reads a scenario and requests, line by line, and writes the answer to each (`Answers.live`: the bytes written are
+/// exactly these answers, in order. That an answer is written before more is read is tested, not proved); `band` reads
+/// a band file, and writes its widest bands; `respond` reads a field file, and writes the scenario that its detectors
+/// and its traffic make; `generate` writes a scenario, `survey` the totals of its run, `--help` and `--version` a text,
+/// and they read nothing.  The arguments are those after the program's name. `run --workers N`, N 0 to 8, has N workers
+/// bring the items of each round to the cabinets, each worker in a thread of its own if one can be started; with 0, as
+/// without the option, they come in the serial order. Each worker calls the gate before each act, but not in a round in
+/// which no other order exists: with one worker, or with items of one pass only at each cabinet. A scenario, or what
+/// `band` or `respond` reads, has at most 16,777,216 bytes, as has the first line that `live` reads; a trace has at
+/// most 67,108,864. The answer may be `NoMemory` wherever memory is taken; of every other answer the clauses say what
+/// it means for the input and the faults.
 pub fn station<R: Threads + Sync, S: Source, K: Sink, G: Gate + Sync>(
     rt: &R,
     alloc: Global,
@@ -128,7 +127,7 @@ pub fn station<R: Threads + Sync, S: Source, K: Sink, G: Gate + Sync>(
     sink: &mut K,
     gate: &G,
 ) -> Status
-    // Usage comes exactly where the words are no command; nothing is read or written then.
+    // Usage comes exactly where the words are not a command; nothing is read or written then.
     ensures usage { result ≡ Status.Usage ↔ ¬ IsCommand (map string_bytes words.now.items) }
     ensures untouched { result ≡ Status.Usage → (source.new ≡ source.old) × (sink.new ≡ sink.old) }
 
@@ -136,7 +135,8 @@ pub fn station<R: Threads + Sync, S: Source, K: Sink, G: Gate + Sync>(
     ensures unread { NeedsNoInput (map string_bytes words.now.items) → source.new ≡ source.old }
     ensures unwritten { IsCheck (map string_bytes words.now.items) → sink.new ≡ sink.old }
 
-    // What the answer tells of what was read and written, by the words: a record for each command, and the causes of an answer.
+    // What the answer says about what was read and written, by the words: a record for each command, and the causes of
+    // an answer.
     ensures answers { Answers (map string_bytes words.now.items) result
         (io_of S.left S.faults K.written K.faults source.old source.new sink.old sink.new) }
 

@@ -67,7 +67,7 @@ no-preempts s e =
       empty-has s 8 refl e,
     ) refl
 
--- free operation goes on where no preempt input is on and the command asks for no pattern and no flash
+-- free operation continues where no preempt input is on and the command asks for no pattern and no flash
 pub free-on : (t : Tables) (version n : ℕ) (on : List ℕ) (past : List Moment) → (last_frame past).mode ≡ Free → on ≡ []
     → n ≢ 255 → is_defined t n ≡ false → mode_sought t version n on past ≡ Free
 free-on t version n on past was none other undefined =
@@ -139,7 +139,8 @@ no-counter past e = rw e refl
 pub no-target : (past : Past) → mode_seen past ≡ Free → (tick_state_of past).target ≡ 0
 no-target past e = rw e refl
 
--- what the last frame shows comes again, with the counter and the target of the tick, where its colours and its signals do
+-- what the last frame shows is repeated, with the counter and the target of the tick, where its colours and its signals
+-- do
 pub frame-like : (past : Past) (mode : Mode) → (frame_seen past).version ≡ past.version
     → (frame_seen past).on ≡ on_of past.tables (frame_seen past).veh 1 ∷ on_of past.tables (frame_seen past).veh 2 ∷ []
     → (frame_seen past).mode ≡ mode → mode_seen past ≡ mode → mode_reached mode past.tables (frame_seen past).veh ≡ mode
@@ -178,7 +179,7 @@ frame-like past mode version on was now reached veh ped =
       version = f.version;
     }) e
 
--- and so they do where what clears or signals goes on with it, no phase ends or begins, and no walk begins
+-- and so they do where what clears or signals continues with it, no phase ends or begins, and no walk begins
 pub frame-going : (past : Past) (mode : Mode) → (frame_seen past).version ≡ past.version
     → (frame_seen past).on ≡ on_of past.tables (frame_seen past).veh 1 ∷ on_of past.tables (frame_seen past).veh 2 ∷ []
     → (frame_seen past).mode ≡ mode → mode_seen past ≡ mode → mode_reached mode past.tables (frame_seen past).veh ≡ mode
@@ -207,7 +208,7 @@ timed-free past now mode =
     none : (f : Frame) (counter target : ℕ) → counter ≡ f.counter → target ≡ f.target → timed true counter target f ≡ f
     none f counter target c t = rw (c, t) refl
 
--- so in free operation the last frame itself comes again
+-- so in free operation the last frame itself is repeated
 pub frame-same : (past : Past) → IsCurrent past → (frame_seen past).mode ≡ Free → mode_seen past ≡ Free
     → (frame_seen past).veh ≡ colours_of past (moves_seen past)
     → (frame_seen past).ped ≡ map (λ p. if walk_after past Free (colours_of past (moves_seen past)) p then Walk else signal_seen past p) all_phases

@@ -140,7 +140,7 @@ target-none t (Track i) clock e = refl
 target-none t (Dwell i) clock e = refl
 target-none t (Exit i) clock e = refl
 
--- no counter and no active request where no pattern is in step
+-- no counter and no active request where no pattern is coordinated
 pub no-counter : (t : Tables) (m : Mode) (target : ℕ) (past : List Moment) → is_coord m ≡ false → 0 ≡ counter_in t m target past
 no-counter t (Coord n) target past e = absurd (false≢true (sym e))
 no-counter t (Seek n) target past e = refl
@@ -165,12 +165,12 @@ no-request t (Track i) ticks asked e = refl
 no-request t (Dwell i) ticks asked e = refl
 no-request t (Exit i) ticks asked e = refl
 
--- lesser times from two numbers of ticks
+-- smaller times from two numbers of ticks
 pub of-ticks : (x : Option (ℕ × ℕ)) (l : Lesser) → x ≡ ticks_of l → lesser_of x ≡ l
 of-ticks x InFull e = ap lesser_of e
 of-ticks x (AtMost walk clear) e = ap lesser_of e
 
--- what the split of a pattern says in a frame in step with it
+-- what the split of a pattern says in a frame coordinated in it
 pub says-none : (t : Tables) (m : Mode) → is_coord m ≡ false → SaysInCoord None m t
 says-none t (Coord n) e = absurd (false≢true (sym e))
 says-none t (Seek n) e = tt

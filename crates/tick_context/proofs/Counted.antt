@@ -25,23 +25,23 @@ shut true false xs e = refl
 shut false true xs e = refl
 shut false false xs e = refl
 
--- a frame in step adds its counter
+-- a coordinated frame adds its counter
 pub counters-more : (n v : ℕ) (m : Moment) (past : List Moment) → is_in_step m.frame v n ≡ true
     → counters_since n v (m ∷ past) ≡ m.frame.counter ∷ counters_since n v past
 counters-more n v m past e = swapped (same_mode m.frame.mode (Coord n)) (m.frame.version == v) _ e
 
--- the last frame in step is the first of them
+-- the last coordinated frame is the first of them
 pub counters-head : (n v : ℕ) (past : List Moment) → is_in_step (last_frame past) v n ≡ true
     → (before : List ℕ) × (counters_since n v past ≡ (last_frame past).counter ∷ before)
 counters-head n v [] e = absurd (false≢true e)
 counters-head n v (m ∷ past) e = (counters_since n v past, counters-more n v m past e)
 
--- and there are none where it is not in step
+-- and there are none where it is not coordinated
 pub counters-none : (n v : ℕ) (past : List Moment) → is_in_step (last_frame past) v n ≡ false → counters_since n v past ≡ []
 counters-none n v [] e = refl
 counters-none n v (m ∷ past) e = shut (same_mode m.frame.mode (Coord n)) (m.frame.version == v) _ e
 
--- the frame in step has the version
+-- the coordinated frame has the version
 pub step-version : (n v : ℕ) (past : List Moment) → is_in_step (last_frame past) v n ≡ true → ((last_frame past).version == v) ≡ true
 step-version n v past e = (and_parts (same_mode (last_frame past).mode (Coord n)) ((last_frame past).version == v) e).1
 

@@ -1,4 +1,4 @@
--- Runs of ticks at which the command and the clock go on evenly, tick by tick.
+-- Runs of ticks at which the command and the clock continue evenly, tick by tick.
 use Rattle.std.proofs.Common.{◌≡◌, ◌<◌, ◌+◌, min, ℕ, suc, true, inl, inr, refl, arith}
 use Rattle.sig_types.specs.declared.frame.Frame.{Frame}
 use Rattle.sig_tables.specs.declared.tables.Tables.{Tables}

@@ -1,4 +1,4 @@
--- A command that asks for nothing goes on to do so.
+-- A command that asks for nothing continues to do so.
 use Rattle.std.proofs.Common.{◌≡◌, ◌≢◌, if◌then◌else◌, ℕ, Bool, true, false, List, None, refl, sym, arith, subst}
 use Rattle.sig_tables.specs.declared.tables.Tables.{Tables}
 use Rattle.sig_tables.specs.Slots.{is_defined}

@@ -57,7 +57,7 @@ command-in n j past fresh s =
     ∙ ap (λ (b : Bool). if b then 0 else (moment_seen past).command) (unbacked j past fresh s.backup)
     ∙ s.command
 
--- the clock goes on by one
+-- the clock advances by one
 pub clock-in : (n j : ℕ) (past : Past) → IsFresh past → StaysInStep n (suc j) past → clock_now past ≡ (moment_seen past).clock + 1
 clock-in n j past fresh s =
     let day : (moment_seen past).clock + suc j < 864000 = s.day in
@@ -67,7 +67,7 @@ clock-in n j past fresh s =
     ∙ ap (λ (l : ℕ). ((moment_seen past).clock + rise_at 0 l ((moment_seen past).number + 1)) % 864000) s.lose
     ∙ small
 
--- a pattern that is defined is no command for flash
+-- a pattern that is defined is not a command for flash
 no-flash : (t : Tables) (n : ℕ) → is_defined t n ≡ true → n ≢ 255
 no-flash t n d =
     let parts = and_parts (nat_le 1 n && nat_le n 48) (nat_le 1 (pattern_of t n).cycle) d in
@@ -81,7 +81,7 @@ step-in f version n e v =
     let too : (f.version == version) ≡ true = (Decides-eqb f.version version).1 v in
     rw (e, same, too) refl
 
--- coordination goes on where no preempt input is on and its pattern stays in command
+-- coordination continues where no preempt input is on and its pattern stays in command
 mode-goes : (t : Tables) (version n : ℕ) (on : List ℕ) (past : List Moment) → (last_frame past).mode ≡ Coord n → on ≡ []
     → is_defined t n ≡ true → is_in_step (last_frame past) version n ≡ true → mode_sought t version n on past ≡ Coord n
 mode-goes t version n on past was none defined step =
@@ -136,7 +136,7 @@ counter-next n j past fresh s was mode =
           (ap (λ (x : ℕ). target_at past.tables n x) (clock-in n j past fresh s) ∙ target-next past.tables n (moment_seen past).clock c few on))
     ])
 
--- no walk begins where the frame is no local zero and the colours stay
+-- no walk begins where the frame is not a local zero and the colours stay
 pub no-walk-in : (n : ℕ) (c : Crossing) (p : ℕ) (colour : Colour) (signal : Ped) → c.is_zero ≡ false → walk_begins c (Coord n) p colour colour signal ≡ false
 no-walk-in n c p Green Dont e = rw e refl
 no-walk-in n c p Green Walk e = refl
@@ -145,7 +145,7 @@ no-walk-in n c p Yellow signal e = refl
 no-walk-in n c p Clear signal e = refl
 no-walk-in n c p Red signal e = refl
 
--- a counter that has gone on by one is at no local zero
+-- a counter that has advanced by one is at no local zero
 pub no-zero : (m : Mode) (counter before : ℕ) (f : Frame) → counter ≡ before + 1 → is_local_zero m counter f ≡ false
 no-zero m counter before f e =
     let some : counter ≢ 0 = λ z. absurd (omega (arith, e, z)) in by m (ne_eqb counter 0 some)
@@ -162,7 +162,7 @@ no-zero m counter before f e =
     by (Dwell i) z = refl
     by (Exit i) z = refl
 
--- so much of the backup time is left
+-- that much of the backup time is left
 pub backup-left : (o : UnitCommands) (t : Tables) (past : Past) (k n : ℕ) → UnitCommandsStand o past → t ≡ past.tables → IsFresh past → (moment_seen past).command ≡ n
     → is_defined t n ≡ true → IsEven o t k
     → (past.tables.unit.backup ≡ 0) ⊎ (in_a_row (λ m. not m.is_commanded) past.moments + 1 + k < 10 * past.tables.unit.backup)

@@ -1,4 +1,4 @@
--- For how many ticks more a phase goes on, from what is kept of it.
+-- For how many ticks more a phase continues, from what is kept of it.
 use Rattle.std.proofs.Common.{◌≡◌, ◌≤◌, ◌+◌, ◌-◌, ◌&&◌, ◌||◌, ℕ, Bool, true, false, List, get_or, Option, refl, sym, ◌∙◌, ap, arith}
 use Rattle.std.proofs.lemmas.Bool.{false≢true}
 use Rattle.std.proofs.Math.Bool.{and-false}
@@ -51,7 +51,7 @@ dont-lasts k p now past Dont e = tt
 dont-lasts k p now past Walk e = absurd (false≢true (sym e))
 dont-lasts k p now past Flash e = absurd (false≢true (sym e))
 
--- a phase that is Red with steady Dont goes on for ever
+-- a phase that is Red with steady Dont continues for ever
 pub dark-lasts : (o : Option ℕ) (k : ℕ) (past : Past) (p : ℕ) → is_green (frame_seen past) p ≡ false → is_clearing (frame_seen past).veh p ≡ false
     → is_signalling (frame_seen past) p ≡ false → PhaseLasts o k past p
 dark-lasts o k past p green clearing signals =

@@ -1,4 +1,4 @@
--- What lasts so many ticks more lasts one less after the next of them.
+-- What lasts that many ticks more lasts one less after the next of them.
 use Rattle.std.proofs.Common.{◌≡◌, ◌<◌, ◌≤◌, ◌+◌, ◌-◌, ◌&&◌, ◌||◌, ◌==◌, ◌⊎◌, not, if◌then◌else◌, ℕ, suc, Bool, true, false}
 use Rattle.std.proofs.Common.{List, [], ◌∷◌, length, get_or, Option, None, Some, refl, sym, ◌∙◌, ap, arith, subst, inl, inr}
 use Rattle.std.proofs.lemmas.Bool.{false≢true}
@@ -50,7 +50,7 @@ row-most test m past = by (test m)
     by true = omega arith
     by false = omega arith
 
--- the tables of what goes on are those at which it began
+-- the tables of what continues are those at which it began
 begun-on : (test : Moment → Bool) (now : Tables) (m : Moment) (past : List Moment) → test m ≡ true → m.tables ≡ now
     → begun test now (m ∷ past) ≡ begun test now past
 begun-on test now m past passes same = rw (passes, same) refl
@@ -66,7 +66,7 @@ signal-itself Walk = refl
 signal-itself Flash = refl
 signal-itself Dont = refl
 
--- a colour that goes on is that of the same interval
+-- a colour that continues is that of the same interval
 latched-on : (p : ℕ) (c : Colour) (now : Tables) (m : Moment) (past : List Moment) → colour_of m.frame p ≡ c → m.tables ≡ now
     → latched p c now (m ∷ past) ≡ latched p c now past
 latched-on p c now m past e same = begun-on (shows p c) now m past (ap (λ (x : Colour). same_colour x c) e ∙ same-itself c) same

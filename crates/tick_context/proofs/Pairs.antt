@@ -17,7 +17,7 @@ signal_pair E each [] (y ∷ ys) = refl
 signal_pair E each (x ∷ xs) [] = refl
 signal_pair E each (x ∷ xs) (y ∷ ys) = ap (λ b. b && pointwise E xs ys) (each x y) ∙ ap (λ b. same_signal x y && b) (signal_pair E each xs ys)
 
--- what a test of two lists of colours told, where the test of each pair is that of one colour
+-- what a test of two lists of colours gave, where the test of each pair is that of one colour
 pub colour_pairs : (E : Colour → Colour → Bool) (told : Bool) (xs ys : List Colour) → told ≡ pointwise E xs ys
     → ((a b : Colour) → E a b ≡ same_colour a b) → told ≡ same_colours xs ys
 colour_pairs E told xs ys e each = e ∙ colour_pair E each xs ys

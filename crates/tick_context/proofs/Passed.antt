@@ -1,4 +1,4 @@
--- What was told stands after ticks that are passed over, and what lasts longer lasts after them.
+-- What was reported follows ticks that are skipped, and what lasts longer lasts after them.
 use Rattle.std.proofs.Common.{◌≡◌, ◌≢◌, ◌<◌, ◌≤◌, ◌+◌, ◌*◌, ◌-◌, ◌%◌, inl, inr, not, min, if◌then◌else◌, nat_le, ℕ, zero, suc, Bool, true, false}
 use Rattle.std.proofs.Common.{refl, sym, ◌∙◌, ap, arith, subst}
 use Rattle.std.proofs.lemmas.Bool.{cases_Bool, leb-true}

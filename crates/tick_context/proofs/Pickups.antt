@@ -15,7 +15,7 @@ use Rattle.coord_count.specs.declared.Count.{Count}
 use Rattle.coord_count.specs.CountStands.{CountStands}
 use Rattle.tick_context.proofs.Counted.{counters-more}
 
--- a frame in step is counted, after those before it
+-- a coordinated frame is counted, after those before it
 pub kept-on : (new : Count) (past : Past) (m : Moment) (n last counter : ℕ) (before : List ℕ) → is_in_step m.frame past.version n ≡ true
     → counter ≡ m.frame.counter → counters_since n past.version past.moments ≡ last ∷ before → CountStands new (counter ∷ last ∷ before)
     → CountStands new (counters_since n past.version (m ∷ past.moments))

@@ -12,7 +12,7 @@ use Rattle.sig_tables.specs.Decide.{RingTurn, Rest, StartUp, Rings, Goal, moves_
 use Rattle.ring_barrier.specs.declared.view.Changes.{Changes}
 use Rattle.tick_context.specs.Moves.{AreMoves}
 
--- what comes of each
+-- what results from each
 pub rest-moves : (ring_turn : RingTurn) (v : View) (changes : Changes) → Rest ≡ ring_turn → AreMoves changes (record { ends = []; begins = [] })
     → AreMoves changes (moves_of ring_turn v)
 rest-moves ring_turn v changes e none = rw (← e) none

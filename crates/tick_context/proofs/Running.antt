@@ -10,7 +10,7 @@ use Rattle.tick_context.specs.Modes.{is_coord}
 use Rattle.tick_context.specs.Binds.{ActivePatternIs, IsBound}
 use Rattle.tick_context.specs.Runs.{ContextRuns}
 
--- in step with pattern n, that is the pattern which is kept
+-- coordinated in pattern n, that is the pattern which is kept
 pub active_pattern-in : (c : TickContext) (k : TickState) (past : Past) (n : ℕ) → ContextRuns c k past → mode_seen past ≡ Coord n → ActivePatternIs c.active_pattern past.tables n
 active_pattern-in c k past n r e = subst (λ (m : Mode). IsBound c.active_pattern past.tables m) e r.bound
 

@@ -40,7 +40,7 @@ pub clearance-other : (past : Past) (p : ℕ) → is_phase p ≡ true → same_c
 clearance-other past p h e =
     sym (in-phases (clears past) p h ∙ rw e refl)
 
--- a number past sixteen is no phase
+-- a number past sixteen is not a phase
 pub past-phases : (p : ℕ) → 16 < p → is_in all_phases p ≡ false
 past-phases p h = elim (cases_Bool (is_in all_phases p)) [
   | inl e ↦ let few : p ≤ 16 = is-within p (listed-phase p e) in absurd (omega arith)

@@ -17,7 +17,7 @@ use Rattle.sig_tables.specs.Seen.{frame_seen, mode_seen}
 use Rattle.tick_context.specs.Walks.{signal_seen}
 use Rattle.tick_context.specs.Shows.{is_signalling}
 
--- what neither walks nor flashes is steady, and stays so by itself, as what goes on to walk or flash does
+-- what neither walks nor flashes is steady, and stays so by itself, as what continues to walk or flash does
 steady : (lesser : Lesser) (p : ℕ) (now : Tables) (past : List Moment) (s : Ped)
     → ((same_signal s Walk || same_signal s Flash) ≡ true → signal_runs_within lesser p now past s ≡ s)
     → s ≡ signal_runs_within lesser p now past s

@@ -1,5 +1,5 @@
--- What is known of the mode that a tick seeks: a pattern that it names is defined, and goes on exactly where the last frame is
--- in step with it.
+-- What is known of the mode that a tick seeks: a pattern that it names is defined, and continues exactly where the last
+-- frame is coordinated in it.
 use Rattle.std.proofs.Common.{◌≡◌, ◌⊎◌, ◌<◌, inl, inr, ℕ, Bool, true, false, ◌==◌, nat_le, if◌then◌else◌}
 use Rattle.std.proofs.Common.{List, [], ◌∷◌, Option, Some, None, refl, sym, ◌∙◌, ap}
 use Rattle.std.proofs.lemmas.Bool.{false≢true, leb-false}
@@ -51,7 +51,7 @@ now-other t on past =
     if-other (breaks_in (preempt_called t on past) (last_frame past).mode) (Some (Entry (preempt_called t on past))) _ tt
     (after-other (last_frame past).mode t on past)
 
--- a pattern that is sought or in step is defined, and it is in step exactly where the frame is
+-- a pattern that is sought or coordinated is defined, and it is coordinated exactly where the frame is
 abbrev pub Chosen : Tables → ℕ → Frame → Mode → Type 0
 Chosen t v f (Seek n) = (is_defined t n ≡ true) × (is_in_step f v n ≡ false)
 Chosen t v f (Coord n) = (is_defined t n ≡ true) × (is_in_step f v n ≡ true)

@@ -32,7 +32,7 @@ use Rattle.tick_context.proofs.Colours.{yellow-stays, clear-stays}
 use Rattle.tick_context.proofs.Waiting.{NoneHere, NoneBeyond, not-free, to-end-not, ends-not, ended-waits, begins-not, shut-begins, no-moves, no-demand}
 use Rattle.tick_context.proofs.Seen.{gap-not-quiet, maximum-unopposed, served-early, done-unreasoned, done-not}
 
--- a Yellow or a red clearance goes on
+-- a Yellow or a red clearance continues
 pub colour-stays : (j p : ℕ) (now : Tables) (past : List Moment) (c : Colour) → ColourLasts (suc j) p now past c → runs_on p now past c ≡ c
 colour-stays j p now past Green h = refl
 colour-stays j p now past Red h = refl
@@ -45,7 +45,7 @@ colour-stays j p now past Clear h =
     let ne : run p Clear past ≢ red_clear_time (latched p Clear now past) p = λ e. absurd (omega (arith, k, e)) in
     sym (clear-stays p now past Clear refl ne)
 
--- a Walk or a Flash goes on
+-- a Walk or a Flash continues
 pub signal-stays : (j p : ℕ) (now : Tables) (past : List Moment) (s : Ped) → SignalLasts (suc j) p now past s → signal_runs_on p now past s ≡ s
 signal-stays j p now past Dont h = refl
 signal-stays j p now past Walk h =
@@ -75,7 +75,7 @@ unserved-stays j past p signal (inr h) =
     off _ _ (ap (λ (s : Ped). same_signal s Dont) (signal-stays j p past.tables past.moments (signal_of (frame_seen past) p) signal)
     ∙ not-dont (signal_of (frame_seen past) p) h)
 
--- a count that is too short with so many ticks more is so with this one
+-- a count that is too short with that many ticks more is so with this one
 short-now : (most row j : ℕ) (b : Bool) → row + suc j < most → nat_le most (if b then row + 1 else 0) ≡ false
 short-now most row j true h = lt-leb most (row + 1) (omega (arith, h))
 short-now most row j false h = lt-leb most 0 (omega (arith, h))
@@ -167,7 +167,7 @@ forced-stays j past o e counter lasts p = elim (cases_Bool (is_phase p)) [
   ]
 ]
 
--- the counter goes on, where a pattern binds
+-- the counter continues, where a pattern binds
 abbrev pub GoesAhead : Option ℕ → Past → Type 0
 GoesAhead o past = (n : ℕ) → o ≡ Some n → (frame_seen past).counter + 1 ≤ (tick_state_of past).counter
 
@@ -196,7 +196,7 @@ unwanted-stays j past o e counter ahead q d h =
     by true b f = f
     by false b f = refl
 
--- what the rings look at, where the clearances go on: a ring is open where nothing is on in it
+-- what the rings look at, where the clearances continue: a ring is open where nothing is on in it
 pub record RingsAre (past : Past) : Type 0 where
   pub first : is_open (view_seen past) 1 ≡ (on_in (frame_seen past) 1 == 0)
   pub second : is_open (view_seen past) 2 ≡ (on_in (frame_seen past) 2 == 0)

@@ -22,7 +22,7 @@ use Rattle.tick_context.proofs.TicksGoOn.{tick-goes, Alike, goes-alike}
 use Rattle.tick_context.proofs.InStep.{counter-next, no-zero}
 use Rattle.tick_context.proofs.Passed.{after, lasts-after}
 
--- what a history has come to after so many ticks more
+-- what a history has reached after that many ticks more
 pub after-last : (k : ℕ) (past : Past)
     → with_moment (after k past) (next_moment (after k past)) ≡ after k (with_moment past (next_moment past))
 after-last zero past = refl
@@ -52,7 +52,7 @@ same-signals (Walk ∷ xs) = same-signals xs
 same-signals (Flash ∷ xs) = same-signals xs
 same-signals (Dont ∷ xs) = same-signals xs
 
--- a frame is plain that shows what the one before it shows, and is no local zero
+-- a frame is plain that shows what the one before it shows, and is not a local zero
 like-plain : (f g : Frame) → Alike g f → is_local_zero g.mode g.counter f ≡ false → has_line f g ≡ false
 like-plain f g a none =
     let colours : same_colours f.veh g.veh ≡ true = ap (λ (xs : List Colour). same_colours f.veh xs) a.veh ∙ same-colours f.veh in
@@ -61,7 +61,7 @@ like-plain f g a none =
     let version : (f.version == g.version) ≡ true = (Decides-eqb f.version g.version).1 (sym a.version) in
     rw (colours, signals, mode, version, none) refl
 
--- the tick of a cabinet that lasts is no local zero
+-- the tick of a cabinet that lasts is not a local zero
 zero-not : (mode : Mode) (j : ℕ) (past : Past) → Lasts mode (suc j) past
     → is_local_zero (next_moment past).frame.mode (next_moment past).frame.counter (frame_seen past) ≡ false
 zero-not Free j past l =

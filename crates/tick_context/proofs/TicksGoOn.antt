@@ -1,5 +1,5 @@
--- A tick of a cabinet that lasts as it is: its mode goes on, it shows what the last frame shows, and what lasts after it lasts one
--- tick less.
+-- A tick of a cabinet that lasts as it is: its mode continues, it shows what the last frame shows, and what lasts after
+-- it lasts one tick less.
 use Rattle.std.proofs.Common.{◌≡◌, ◌<◌, ◌≤◌, ◌+◌, ◌&&◌, not, ℕ, suc, true, false}
 use Rattle.std.proofs.Common.{List, [], Option, refl, sym, ◌∙◌, ap, arith}
 use Rattle.sig_types.specs.declared.frame.Colour.TheVariants.{Green}
@@ -34,7 +34,7 @@ use Rattle.tick_context.proofs.Stays.{colour-stays, signal-stays, GoesAhead, rin
 use Rattle.tick_context.proofs.Free.{command-none}
 use Rattle.tick_context.proofs.InStep.{mode-in, counter-next, no-walk-in, no-zero}
 
--- the mode goes on at the next tick
+-- the mode continues at the next tick
 pub record Goes (mode : Mode) (past : Past) : Type 0 where
   pub now : mode_seen past ≡ mode
   pub ring_turn : ring_turn_seen past ≡ Rings

@@ -125,7 +125,7 @@ no-moves v a b c d = by _ _ _ _ a b c d
     by : (a b c d : List ℕ) → a ≡ [] → b ≡ [] → c ≡ [] → d ≡ [] → both a b c d ≡ both [] [] [] []
     by a b c d e f g h = rw (e, f, g, h) refl
 
--- what is no phase has no demand
+-- what is not a phase has no demand
 none-outside : (test : ℕ → Bool) (q : ℕ) → is_phase q ≡ false → is_in (those test all_phases) q ≡ false
 none-outside test q h = in-those-is test all_phases q ∙ elim (cases_Bool (is_in all_phases q)) [
   | inl e ↦ absurd (false≢true (sym h ∙ listed-phase q e))

@@ -21,7 +21,7 @@ wanted-room demand s v k d h p i =
     asked true b = refl
     asked false b = refl
 
--- a set has phases alone
+-- a set has only phases
 pub are-phases : (demand : PhaseSet) (phases : List ℕ) → phases_of demand ≡ phases → ArePhases phases
 are-phases demand phases d q i = listed-phase q (in-those (has demand) all_phases q (ap (λ (xs : List ℕ). is_in xs q) d ∙ i)).1
 

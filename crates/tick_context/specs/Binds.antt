@@ -23,13 +23,13 @@ pub record ActivePatternIs (b : ActivePattern) (t : Tables) (n : ℕ) : Type 0 w
 abbrev pub ActivePatternStands : ActivePattern → Tables → Type 0
 ActivePatternStands b t = b.pattern ≢ 0 → ActivePatternIs b t b.pattern
 
--- where a pattern is sought or in step, it is the one that is kept
+-- where a pattern is sought or coordinated, it is the one that is kept
 abbrev pub IsBound : ActivePattern → Tables → Mode → Type 0
 IsBound b t (Seek n) = ActivePatternIs b t n
 IsBound b t (Coord n) = ActivePatternIs b t n
 IsBound b t mode = Unit {0}
 
--- a pattern that is sought or in step is defined
+-- a pattern that is sought or coordinated is defined
 abbrev pub Names : Tables → Mode → Type 0
 Names t (Seek n) = is_defined t n ≡ true
 Names t (Coord n) = is_defined t n ≡ true

@@ -38,6 +38,6 @@ is_on_target c =
     nat_le c.active_pattern.plan.window c.frame.counter
     || (planned_target c.active_pattern.plan c.unit_commands.clock == c.frame.counter)
 
--- for how many ticks more that counter goes on as time does, before the end of its cycle
+-- for how many ticks more that counter continues as time does, before the end of its cycle
 abbrev pub ticks_in_cycle : TickContext → ℕ
 ticks_in_cycle c = if is_on_target c then c.active_pattern.plan.cycle - 1 - c.frame.counter else 0

@@ -1,4 +1,4 @@
--- What both engines keep beside past frames is what the past gives.
+-- What both engines keep in addition to past frames is what the past gives.
 use Rattle.std.specs.Prelude.{ℕ, ◌≡◌, ◌<◌, ◌≤◌, true, length}
 use Rattle.sig_tables.specs.Slots.{cycle_time}
 use Rattle.sig_tables.specs.Choosing.{is_in_step}
@@ -20,8 +20,8 @@ use Rattle.tick_context.specs.declared.context.TickContext.{TickContext}
 abbrev pub told_ticks : TickContext → ℕ
 told_ticks c = counted_ticks c.unit_commands
 
--- the tables in force, the last frame and what was told are what the past gives. Of the past itself: there is a moment; the last
--- frame names phases, or nothing; start-up is over after 60 frames, and no frame is of tables to come
+-- the tables in force, the last frame and what was reported are what the past gives. Of the past itself: there is a
+-- moment; the last frame names phases, or nothing; start-up is over after 60 frames, and no frame is of tables to come
 pub record ContextStands (c : TickContext) (past : Past) : Type 0 where
   pub tables : c.tables ≡ past.tables
   pub layout : LaidOut c.layout past.tables
@@ -37,11 +37,11 @@ pub record ContextStands (c : TickContext) (past : Past) : Type 0 where
   pub few_start : start_run past.moments ≤ 60
   pub old_frame : (frame_seen past).version ≤ past.version
 
--- in step with pattern n the counters since the pickup are counted, and the last is within the cycle
+-- coordinated in pattern n the counters since the pickup are counted, and the last is within the cycle
 pub record CountsOn (count : Count) (past : Past) (n : ℕ) : Type 0 where
   pub stands : CountStands count (counters_since n past.version past.moments)
   pub within : counter_of count < cycle_time past.tables n
 
--- the count is that of the pattern with which the last frame is in step, if it is with one
+-- the count is that of the pattern with which the last frame is coordinated, if it is with one
 abbrev pub CountStandsFor : Count → Past → Type 0
 CountStandsFor count past = (n : ℕ) → is_in_step (frame_seen past) past.version n ≡ true → CountsOn count past n

@@ -1,4 +1,4 @@
--- For how many ticks a cabinet goes on as it is: what would end lasts for so many ticks more.
+-- For how many ticks a cabinet continues as it is: what would end lasts for that many ticks more.
 use Rattle.std.specs.Prelude.{ℕ, ◌≡◌, ◌≢◌, ◌<◌, ◌≤◌, ◌+◌, ◌*◌, ◌&&◌, ◌==◌, ◌∷◌, ◌⊎◌, not, if◌then◌else◌, true, false, List, [], length, Option, None, Some}
 use Rattle.sig_types.specs.declared.frame.Colour.{Colour}
 use Rattle.sig_types.specs.declared.frame.Colour.TheVariants.{Green, Yellow, Clear, Red}
@@ -28,7 +28,7 @@ use Rattle.preempt_stages.specs.Inputs.{preempts_seen}
 use Rattle.tick_context.specs.declared.seeing.TickInputs.{TickInputs}
 use Rattle.tick_context.specs.Shows.{is_signalling}
 
--- nothing has been told since the last frame
+-- nothing has been reported since the last frame
 pub record IsFresh (past : Past) : Type 0 where
   pub heard : past.heard ≡ []
   pub commanded : past.commanded ≡ None
@@ -44,60 +44,61 @@ pub record Looks (pattern : Option ℕ) (s : TickInputs) (past : Past) : Type 0 
   pub quiet : (p : ℕ) → is_phase p ≡ true → is_in (quiet_with pattern past) p ≡ (is_green (frame_seen past) p && not (has s.active p))
   pub opposed : Has s.opposed (is_in (opposed_with pattern past))
 
--- the Yellow or the red clearance that phase p shows lasts so many ticks more
+-- the Yellow or the red clearance that phase p shows lasts that many ticks more
 abbrev pub ColourLasts : ℕ → ℕ → Tables → List Moment → Colour → Type 0
 ColourLasts k p now past Yellow = run p Yellow past + k ≤ yellow_time (latched p Yellow now past) p
 ColourLasts k p now past Clear = run p Clear past + k ≤ red_clear_time (latched p Clear now past) p
 ColourLasts k p now past Green = Unit {0}
 ColourLasts k p now past Red = Unit {0}
 
--- phase p is not served for so many ticks more: its least green runs on, or it shows Walk or Flash
+-- phase p is not served for that many ticks more: its minimum green runs on, or it shows Walk or Flash
 abbrev pub StaysUnserved : ℕ → Past → ℕ → Type 0
 StaysUnserved k past p =
     (run p Green past.moments + k ≤ least_green (latched p Green past.tables past.moments) p) ⊎ (is_signalling (frame_seen past) p ≡ true)
 
--- phase p has no gap for so many ticks more: it is active, or not quiet for long enough
+-- phase p has no gap for that many ticks more: it is active, or not quiet for long enough
 abbrev pub HasNoGap : Option ℕ → ℕ → Past → ℕ → Type 0
 HasNoGap pattern k past p =
     (is_in (quiet_with pattern past) p ≡ false) ⊎ (in_a_row (λ m. is_in m.quiet p) past.moments + k < gap_time past.tables p)
 
--- phase p is not at its maximum for so many ticks more: it is not opposed, or not for long enough
+-- phase p is not at its maximum for that many ticks more: it is not opposed, or not for long enough
 abbrev pub HasNoMaximum : Option ℕ → ℕ → Past → ℕ → Type 0
 HasNoMaximum pattern k past p =
     (maximum_time past.tables p ≢ 0)
     × ((is_in (opposed_with pattern past) p ≡ false) ⊎ (in_a_row (λ m. is_in m.opposed p) past.moments + k < maximum_time past.tables p))
 
--- so many ticks more do not reach the force point of phase p in pattern n
+-- that many ticks more do not reach the force point of phase p in pattern n
 abbrev pub ComesBefore : ℕ → ℕ → Past → ℕ → Type 0
 ComesBefore n k past p = (frame_seen past).counter + k < force_point past.tables n p
 
--- there is no reason to end phase p for so many ticks more
+-- there is no reason to end phase p for that many ticks more
 abbrev pub HasNoReason : Option ℕ → ℕ → Past → ℕ → Type 0
 HasNoReason None k past p = HasNoGap None k past p × HasNoMaximum None k past p
 HasNoReason (Some n) k past p =
     ((is_coordinated past.tables n p ≡ true) × ComesBefore n k past p)
     ⊎ ((is_coordinated past.tables n p ≡ false) × ((is_floating past.tables ≡ false) × HasNoGap (Some n) k past p))
 
--- the pattern that binds does not force phase p off for so many ticks more
+-- the pattern that binds does not force phase p off for that many ticks more
 abbrev pub StaysUnforced : Option ℕ → ℕ → Past → ℕ → Type 0
 StaysUnforced None k past p = Unit {0}
 StaysUnforced (Some n) k past p = (is_coordinated past.tables n p ≡ true) ⊎ ComesBefore n k past p
 
--- what phase p shows lasts so many ticks more, where this pattern binds: its clearance and its walk run on, and where it is Green it
--- is not forced off
+-- what phase p shows lasts that many ticks more, where this pattern binds: its clearance and its walk run on, and where
+-- it is Green it is not forced off
 pub record PhaseLasts (pattern : Option ℕ) (k : ℕ) (past : Past) (p : ℕ) : Type 0 where
   pub colour : ColourLasts k p past.tables past.moments (colour_of (frame_seen past) p)
   pub signal : SignalLasts k p past.tables past.moments (signal_of (frame_seen past) p)
   pub unforced : (is_enabled past.tables p && is_green (frame_seen past) p) ≡ true → StaysUnforced pattern k past p
 
--- something is on in ring r that is not done for so many ticks more: where it is Green, it is not served or there is no reason to end it
+-- something is on in ring r that is not done for that many ticks more: where it is Green, it is not served or there is
+-- no reason to end it
 pub record StaysOn (pattern : Option ℕ) (k : ℕ) (past : Past) (r : ℕ) : Type 0 where
   pub on : on_in (frame_seen past) r ≢ 0
   pub undone : (is_enabled past.tables (on_in (frame_seen past) r) && is_green (frame_seen past) (on_in (frame_seen past) r)) ≡ true
       → StaysUnserved k past (on_in (frame_seen past) r) ⊎ HasNoReason pattern k past (on_in (frame_seen past) r)
 
--- for so many ticks more there is no room for phase q: it is too late for its least service before its force point, or the window
--- lasts
+-- for that many ticks more there is no room for phase q: it is too late for its minimum service before its force point,
+-- or the window lasts
 abbrev pub HasNoRoom : Option ℕ → ℕ → Past → ℕ → Type 0
 HasNoRoom None k past q = ⊥
 HasNoRoom (Some n) k past q =
@@ -105,7 +106,7 @@ HasNoRoom (Some n) k past q =
     × ((force_point past.tables n q < (frame_seen past).counter + 1 + least_service past.tables q)
     ⊎ ((frame_seen past).counter + k < window past.tables n))
 
--- phase q is not wanted for so many ticks more
+-- phase q is not wanted for that many ticks more
 abbrev pub IsUnwanted : Option ℕ → ℕ → Past → ℕ → Type 0
 IsUnwanted pattern k past q = (is_in (demand_with pattern past) q ≡ false) ⊎ HasNoRoom pattern k past q
 
@@ -113,7 +114,7 @@ IsUnwanted pattern k past q = (is_in (demand_with pattern past) q ≡ false) ⊎
 abbrev pub present_on : Past → ℕ
 present_on past = if on_in (frame_seen past) 1 == 0 then on_in (frame_seen past) 2 else on_in (frame_seen past) 1
 
--- no phase of ring r on the present side is wanted for so many ticks more, and none of another side
+-- no phase of ring r on the present side is wanted for that many ticks more, and none of another side
 abbrev pub NoneInRing : Option ℕ → ℕ → Past → ℕ → Type 0
 NoneInRing pattern k past r =
     (q : ℕ) → (ring_of past.tables q == r && are_of_one_side past.tables (present_on past) q) ≡ true → IsUnwanted pattern k past q
@@ -122,15 +123,15 @@ abbrev pub NoneElsewhere : Option ℕ → ℕ → Past → Type 0
 NoneElsewhere pattern k past =
     (q : ℕ) → is_phase q ≡ true → are_of_one_side past.tables (present_on past) q ≡ false → IsUnwanted pattern k past q
 
--- in ring r nothing ends and nothing begins for so many ticks more: what is on stays; or none of its phases here is wanted, and nothing
--- is on, or no other side is wanted, or the other ring isn't free to leave
+-- in ring r nothing ends and nothing begins for that many ticks more: what is on stays; or none of its phases here is
+-- wanted, and nothing is on, or no other side is wanted, or the other ring isn't free to leave
 abbrev pub RingLasts : Option ℕ → ℕ → Past → ℕ → Type 0
 RingLasts pattern k past r =
     StaysOn pattern k past r
     ⊎ (NoneInRing pattern k past r
     × ((on_in (frame_seen past) r ≡ 0) ⊎ (NoneElsewhere pattern k past ⊎ StaysOn pattern k past (other_ring r))))
 
--- the cabinet goes on in free operation, whatever becomes of its command, and no walk begins
+-- the cabinet continues in free operation, whatever becomes of its command, and no walk begins
 pub record StaysFree (past : Past) : Type 0 where
   pub other : (moment_seen past).command ≢ 255
   pub undefined : is_defined past.tables (moment_seen past).command ≡ false
@@ -141,8 +142,8 @@ pub record StaysFree (past : Past) : Type 0 where
       && ((same_colour (colour_of (frame_seen past) p) Green && not (is_signalling (frame_seen past) p))
       && not (is_in (opposed_with None past) p))) ≡ false
 
--- the cabinet stays in step with pattern n for so many ticks more: the pattern stays in command, the day goes on, the counter goes
--- on as time does within the cycle, and no priority request is active
+-- the cabinet stays coordinated in pattern n for that many ticks more: the pattern stays in command, the day continues,
+-- the counter continues as time does within the cycle, and no priority request is active
 pub record StaysInStep (n k : ℕ) (past : Past) : Type 0 where
   pub defined : is_defined past.tables n ≡ true
   pub command : (moment_seen past).command ≡ n
@@ -156,13 +157,13 @@ pub record StaysInStep (n k : ℕ) (past : Past) : Type 0 where
       ⊎ (target_at past.tables n (moment_seen past).clock ≡ (frame_seen past).counter)
   pub unasked : (number : ℕ) → (moment_seen past).number < number → active_in past.tables (Coord n) number past.asked ≡ 0
 
--- the mode lasts so many ticks more; of the others than these two nothing is said
+-- the mode lasts that many ticks more; of the others than these two nothing is said
 abbrev pub ModeLasts : Mode → ℕ → Past → Type 0
 ModeLasts Free k past = StaysFree past
 ModeLasts (Coord n) k past = StaysInStep n k past
 ModeLasts mode k past = ⊥
 
--- nothing is told, and for so many ticks more the cabinet shows what it shows, in this mode: something is on
+-- nothing is reported, and for that many ticks more the cabinet shows what it shows, in this mode: something is on
 pub record Lasts (mode : Mode) (k : ℕ) (past : Past) : Type 0 where
   pub fresh : IsFresh past
   pub was : (frame_seen past).mode ≡ mode

@@ -8,7 +8,7 @@ abbrev pub is_coord : Mode → Bool
 is_coord (Coord n) = true
 is_coord mode = false
 
--- a cabinet in this mode seeks a pattern or is in step with one
+-- a cabinet in this mode seeks a pattern or is coordinated with one
 abbrev pub has_pattern : Mode → Bool
 has_pattern (Seek n) = true
 has_pattern (Coord n) = true

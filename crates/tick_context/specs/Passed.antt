@@ -11,7 +11,7 @@ abbrev pub timed : Bool → ℕ → ℕ → Frame → Frame
 timed true counter target f = record f { counter = counter; target = target }
 timed false counter target f = f
 
--- where the target of a plan stands at this time of the day
+-- where the target of a plan is at this time of the day
 abbrev pub planned_target : Plan → ℕ → ℕ
 planned_target plan clock = (clock + plan.shift + (plan.cycle - plan.offset % plan.cycle)) % plan.cycle
 

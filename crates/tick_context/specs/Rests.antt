@@ -7,14 +7,14 @@ use Rattle.sig_tables.specs.Ticking.{on_of}
 use Rattle.sig_tables.specs.Decide.{next_moment}
 use Rattle.sig_tables.specs.Seen.{frame_seen, mode_seen}
 
--- the last frame has what a frame of Free has by the tables in force, beside its colours and signals
+-- the last frame has what a frame of Free has by the tables in force, in addition to its colours and signals
 pub record IsCurrent (past : Past) : Type 0 where
   pub version : (frame_seen past).version ≡ past.version
   pub counter : (frame_seen past).counter ≡ 0
   pub target : (frame_seen past).target ≡ 0
   pub on : (frame_seen past).on ≡ on_of past.tables (frame_seen past).veh 1 ∷ on_of past.tables (frame_seen past).veh 2 ∷ []
 
--- the cabinet runs free and goes on to, something is on in each ring, and the last frame comes again
+-- the cabinet runs free and continues to, something is on in each ring, and the last frame is repeated
 pub record Repeats (past : Past) : Type 0 where
   pub was : (frame_seen past).mode ≡ Free
   pub mode : mode_seen past ≡ Free

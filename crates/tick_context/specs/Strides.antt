@@ -10,7 +10,7 @@ use Rattle.sig_tables.specs.Decide.{decide, ticked, last_frame_of}
 abbrev pub has_line : Frame → Frame → Bool
 has_line last next = not (shows_same last next) || is_local_zero next.mode next.counter last
 
--- the history with so many more ticks
+-- the history with that many more ticks
 abbrev pub ticks_more : ℕ → History → History
 ticks_more zero h = h
 ticks_more (suc k) h = ticked (ticks_more k h)

@@ -14,7 +14,7 @@ use Rattle.flash_mode.specs.RingTurns.{ring_turn_meant}
 use Rattle.prio_queue.specs.Places.{some_number}
 use Rattle.tick_context.specs.declared.tick_state.TickState.{TickState}
 
--- the tick state is that of the definitions; the goal is that of its mode, and so are the lesser times
+-- the tick state is that of the definitions; the goal is that of its mode, and so are the smaller times
 pub record TickStateIs (k : TickState) (past : Past) : Type 0 where
   pub clock : k.clock ≡ (tick_state_of past).clock
   pub command : k.command ≡ (tick_state_of past).command

@@ -11,7 +11,7 @@ use prio_queue::Queue;
 use sig_tables::{Layout, Shown, Tables};
 use sig_types::{Field, Frame, Request};
 
-/// What a cabinet keeps beside its past frames. Both engines hold one.
+/// What a cabinet keeps in addition to its past frames. Both engines hold one.
 #[derive(Drop)]
 pub struct TickContext {
     /// The tables in force, what they say of all phases, and how many tables were put in force since the opening.

@@ -102,8 +102,8 @@ impl TickContext {
         called.meet(phases).is_empty()
     }
 
-    /// Whether the command is neither for flash nor for a pattern that is defined, and the last frame has no counter and
-    /// no target, as one of free operation that goes on.
+    /// Whether the command is neither for flash nor for a pattern that is defined, and the last frame has no counter
+    /// and no target, as one of free operation that continues.
     pub fn is_left_free(&self) -> bool
         ensures is { result ≡ is_left_free self.now }
         ensures free { (past : Past) → ContextStands self.now past → IsFresh past → IsTrue result
@@ -154,7 +154,7 @@ impl TickContext {
         }
     }
 
-    /// For how many ticks more the counter of the pattern that is kept goes on as time does, before the end of its
+    /// For how many ticks more the counter of the pattern that is kept continues as time does, before the end of its
     /// cycle. While it is to be corrected this says none.
     pub fn counter_left(&self) -> u32
         ensures is { result ≡ ticks_in_cycle self.now }

@@ -47,7 +47,7 @@ impl TickContext {
         self.active_pattern.follow(&self.tables, mode);
     }
 
-    /// Skips N ticks at which the command and the clock go on evenly; while coordinated in a pattern this is the
+    /// Skips N ticks at which the command and the clock continue evenly; while coordinated in a pattern this is the
     /// counter of the last of them.
     pub fn pass(&mut self, ticks: u32, counter: u32)
         requires few { told_ticks self.old + ticks ≤ 4294967295 }
@@ -87,7 +87,7 @@ impl TickContext {
         }
     }
 
-    /// Where the cabinet stands in the cycle of its pattern, with which it is in step, in ticks, by this count.
+    /// Where the cabinet is in the cycle of its pattern, with which it is coordinated, in ticks, by this count.
     fn counter_on(&self, target: u32, count: Count) -> u32
         requires below { target < self.now.active_pattern.plan.cycle }
         ensures counter { (past : Past) (n : ℕ) → ContextStands self.now past → CountStandsFor count past
@@ -103,7 +103,7 @@ impl TickContext {
         }
     }
 
-    /// Where the cabinet stands in the cycle of the pattern with which it is in step, in ticks, by this count; else 0.
+    /// Where the cabinet is in the cycle of the pattern with which it is coordinated, in ticks, by this count; else 0.
     fn counter(&self, mode: Mode, target: u32, count: Count) -> u32
         requires below { target < self.now.active_pattern.plan.cycle }
         ensures counter { (past : Past) → ContextStands self.now past → CountStandsFor count past

@@ -7,8 +7,8 @@ use crate::context::TickContext;
 use crate::modes::is_coord;
 use sig_types::PhaseSet;
 
-/// For how many ticks more a ring stays as it is in which this phase is on, or nothing, 0: so long as it stays, or as none here
-/// is wanted and none could be left to.
+/// For how many ticks more a ring stays as it is in which this phase is on, or nothing, 0: as long as it stays, or as
+/// none here is wanted and none could be left to.
 fn ring_left(on: u8, stays: u32, none: u32, wait: u32) -> u32
     ensures { result ≡ (if on == 0 then none else max stays (min none wait)) }
 {

@@ -31,7 +31,7 @@ fn shows_same(last: &Frame, next: &Frame) -> bool
         && last.version == next.version
 }
 
-/// Whether a frame in step with a pattern has the counter 0, where the one before hadn't or wasn't in step with it.
+/// Whether a frame coordinated in a pattern has the counter 0, where the one before hadn't or wasn't coordinated in it.
 fn is_local_zero(last: &Frame, next: &Frame) -> bool
     ensures { result ≡ is_local_zero next.now.mode next.now.counter last.now }
 {

@@ -17,7 +17,7 @@ pub struct TickState {
     /// The phases that the mode brings to green.
     pub goal: PhaseSet,
     pub ring_turn: RingTurn,
-    /// The walk and the pedestrian clearance, in ticks, to which a preempt cuts those of the phases beside its goal.
+    /// The walk and the pedestrian clearance, in ticks, to which a preempt cuts those of the phases outside its goal.
     pub lesser: Option<(u32, u32)>,
     /// The counter of the cabinet in the cycle of its pattern, and its target, in ticks.
     pub counter: u32,

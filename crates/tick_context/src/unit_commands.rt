@@ -143,7 +143,7 @@ impl UnitCommands {
         if clock < DAY { clock } else { clock - DAY }
     }
 
-    /// One tick, at which this pattern was in command and the clock stood so.
+    /// One tick, at which this pattern was in command and the clock was so.
     pub fn step(&mut self, commanded: u8, clock: u32)
         requires few { counted_ticks self.old < 4294967295 }
         requires of_day { clock < 864000 }

@@ -1,5 +1,5 @@
--- What is on along a lawful history: no two incompatible phases and no two of one ring, enabled ones alone, and yellows of
--- at least 3 seconds, whatever the mode.
+-- The phases that are on along a lawful history: no two conflicting phases, no two of one ring, only enabled ones, and
+-- yellows of at least 3 seconds, in every mode.
 use Rattle.std.proofs.Common.{◌≡◌, ◌⊎◌, inl, inr, ℕ, true, false, not, ◌&&◌, ◌==◌, List, [], ◌∷◌, ◌<◌, ◌≤◌, refl, sym, ◌∙◌, ap, subst, arith}
 use Rattle.std.proofs.lemmas.Bool.{and_parts, false≢true, both_ways, not-true}
 use Rattle.std.proofs.lemmas.Bool.Decides.{Decides-eqb}

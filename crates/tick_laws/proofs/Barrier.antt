@@ -138,7 +138,7 @@ ended-is past p g =
     ∙ ap (λ (b : Bool). b && is_to_end (view_seen past) (ring_of past.tables p) p) (through-is past p (unbound past p g))
     ∙ ap (λ (b : Bool). is_through past.moments (next_moment past) p && b) (turn-is past p g)
 
--- a ring ends its own phase alone
+-- a ring ends only its own phase
 ending-own : (v : View) (r p : ℕ) → bound v.mode ≡ None → on_phase v r ≡ p → is_in (ending_in v r) p ≡ is_ended v r p
 ending-own v r p e at = rw (at, forced-unbound v p e) (by (is_ended v r p))
   where

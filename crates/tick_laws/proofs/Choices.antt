@@ -26,7 +26,7 @@ pub not-chosen : {A : Type 0} (b : Bool) (x y : A) → b ≡ false → (if b the
 not-chosen false x y e = refl
 not-chosen true x y e = absurd (false≢true (sym e))
 
--- a choice of two is no third
+-- a choice of two is not a third
 pub neither : {A : Type 0} (b : Bool) (x y c : A) → (x ≡ c → ⊥) → (y ≡ c → ⊥) → (if b then x else y) ≡ c → ⊥
 neither true x y c f g e = f e
 neither false x y c f g e = g e
@@ -47,7 +47,7 @@ same-is Clear Clear h = refl
 same-is Red Red h = refl
 same-is _ _ h = absurd (false≢true h)
 
--- two colours that a test tells apart
+-- two colours that a test distinguishes
 pub differs : (x c : Colour) → same_colour x c ≡ false → x ≡ c → ⊥
 differs x c f e = both_ways (same_colour x c) f (ap (λ (y : Colour). same_colour y c) e ∙ same-self c)
 

@@ -49,7 +49,7 @@ since-run : (n : ℕ) (h : History) → since_opening (run_on n h) ≡ ticks_on 
 since-run zero h = refl
 since-run (suc n) h = ap (λ (es : List Event). Tick ∷ es) (since-run n h)
 
--- what the search finds after so many ticks alone
+-- what the search finds after that many ticks and nothing else
 record Runs (n clock gain lose : ℕ) (events : List Event) : Type 0 where
   steady : IsSteady events
   count : tick_count events ≡ n

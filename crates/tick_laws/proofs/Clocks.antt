@@ -44,7 +44,7 @@ clock-aside a b (m ∷ past) = refl
 abbrev raw : List Event → ℕ
 raw events = time_set events + ticks_since events + each_since (gain_told events) events - each_since (lose_told events) events
 
--- what has come to this agrees with the search
+-- what has reached this agrees with the search
 record Agrees (past : Past) (events : List Event) : Type 0 where
   number : (moment_seen past).number ≡ tick_count events
   gain : past.gain ≡ gain_told events

@@ -24,7 +24,7 @@ use Rattle.sig_tables.proofs.FreeTickState.{lesser-unstaged}
 use Rattle.tick_laws.proofs.Choices.{same-is-signal, not-chosen}
 use Rattle.tick_laws.proofs.RingTurns.{Suited, ring_turn-suited}
 
--- how long the green of p lasts at least in this mode, of so much by its tables
+-- how long the green of p lasts at least in this mode, of that much by its tables
 abbrev pub least_in : Tables → Mode → ℕ → ℕ → ℕ
 least_in t mode p time = if is_in (goal_in t mode) p then time else lesser_green t (stage_of mode) time
 
@@ -65,7 +65,7 @@ cleared-ended t mode past p out h =
       dont = ap (λ (l : Lesser). signal_runs_within l p t past (signal_of (last_frame past) p)) (not-chosen _ _ _ out) ∙ same-is-signal _ Dont k.1;
     }
 
--- what stands alone under a test
+-- what is the only one under a test
 alone : (b : Bool) (x p : ℕ) → is_in (if b then x ∷ [] else []) p ≡ true → (p ≡ x) × (b ≡ true)
 alone true x p h = elim (in-cons x [] p h) [ inl e ↦ (e, refl) | inr n ↦ absurd (false≢true n) ]
 alone false x p h = absurd (false≢true h)

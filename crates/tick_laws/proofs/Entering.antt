@@ -19,7 +19,7 @@ use Rattle.sig_tables.proofs.Below.{coordinated-enabled}
 use Rattle.tick_laws.specs.Zero.{HoldsPair, Sees}
 use Rattle.tick_laws.proofs.Finding.{finds-only, finds-none, some-passes, none-passes, passes-some, finds-some, in-those-of, or_else-left, later-or-earlier, heads-of, in-from_side}
 
--- at counter 0 there is room for a held phase alone
+-- at counter 0 there is room only for a held phase
 room-held : (b : Option ℕ) (t : Tables) (n k q : ℕ) → b ≡ Some n → is_coordinated t n q ≡ true → has_room b t 0 k q ≡ true
 room-held b t n k q e h = rw (e, h) refl
 
@@ -108,7 +108,7 @@ comes-alone v n r q x c ring b =
     let held : is_coordinated v.tables n x ≡ true = begins-held v n x c.pair c.sees c.zero b in
     c.pair.alone x held ∙ ap (λ (y : ℕ). coordinated_phase v.tables n y) (ring ∙ sym c.ring) ∙ sym (c.pair.alone q c.held)
 
--- no phase of another side than that of a held one is wanted
+-- no phase of a different side from that of a held one is wanted
 none-elsewhere : (v : View) (n k r q : ℕ) → Comes v n r q → are_of_one_side v.tables (present_side v) q ≡ true → elsewhere v k ≡ false
 none-elsewhere v n k r q c side =
     none-passes (λ x. not (are_of_one_side v.tables (present_side v) x) && is_wanted v k x) v.demand (λ x _ p.

@@ -70,7 +70,7 @@ finds-some test (x ∷ xs) q h passes = elim (cases_Bool (test x)) [
   ]
 ]
 
--- what stands in a list stands in what it is made longer by
+-- what is in a list is in what it is made longer by
 pub in-left : (xs ys : List ℕ) (q : ℕ) → is_in xs q ≡ true → is_in (xs ++ ys) q ≡ true
 in-left [] ys q h = absurd (false≢true h)
 in-left (x ∷ xs) ys q h = elim (in-cons x xs q h) [

@@ -1,4 +1,4 @@
--- What is on stands together: the fact that is kept from tick to tick.
+-- What is on is together: the fact that is kept from tick to tick.
 use Rattle.std.proofs.Common.{◌≡◌, ◌⊎◌, inl, inr, ℕ, Bool, true, false, not, ◌&&◌, if◌then◌else◌, ◌==◌, List, refl, sym, ◌∙◌, subst}
 use Rattle.std.proofs.lemmas.Bool.{cases_Bool, and_parts, and_from, false≢true, both_ways, not-true}
 use Rattle.std.proofs.lemmas.Bool.Decides.{Decides-eqb}
@@ -108,7 +108,7 @@ named t veh r p ph en e on alone =
     let l : (is_enabled t q ≡ true) × ((ring_of t q == r) ≡ true) = and_parts _ _ k.0 in
     alone q l.0 (eq-true _ _ l.1) k.1)
 
--- the frame that moves give stands, where the moves fit
+-- the frame that moves give is valid, if the moves fit
 pub standing-next : (tick_state : TickState) (past : Past) (tick_inputs : TickInputs) (moves : Moves)
     → Sound past.tables → FrameStands past.tables (last_frame past.moments)
     → Fits past.tables (last_frame past.moments) (ended_of past.tables past.moments) moves.begins

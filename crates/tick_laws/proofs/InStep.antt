@@ -1,4 +1,4 @@
--- One tick of a cabinet in step with a pattern keeps it in step, and a pickup puts it there.
+-- One tick of a cabinet coordinated in a pattern keeps it coordinated, and a pickup puts it there.
 use Rattle.std.proofs.Common.{◌≡◌, ◌≢◌, ◌⊎◌, inl, inr, ℕ, ◌<◌, ◌≤◌, Bool, true, false, not, ◌&&◌, ◌==◌, if◌then◌else◌, List, [], ◌∷◌, refl, sym, ◌∙◌, ap, subst, arith}
 use Rattle.std.proofs.lemmas.Bool.{cases_Bool, and_parts, both_ways, false≢true}
 use Rattle.std.proofs.lemmas.Bool.Decides.{Decides-eqb}
@@ -117,7 +117,7 @@ named-beside t f stands named a b = elim (named 1 (inl refl)) [
   ]
 ]
 
--- what is known of a tick that goes on in step
+-- what is known of a tick that continues coordinated
 pub record GoesInStep (past : Past) (n : ℕ) : Type 0 where
   pub sound : Sound past.tables
   pub stands : FrameStands past.tables (last_frame past.moments)
@@ -271,7 +271,7 @@ walks-on past n p g e other last next =
         (subst (λ (ys : List Moment). SignalMoves past.tables p ys (next_moment past)) (sym is) moves)
         (subst (λ (ys : List Moment). SignalStands past.tables p ys (signal_of (last_frame ys) p)) (sym is) stands))
 
--- the tick keeps the cabinet in step
+-- the tick keeps the cabinet coordinated
 pub goes-on : (past : Past) (n : ℕ) → GoesInStep past n → OnGreen (last_frame past.moments) → OnGreen (next_moment past).frame
     → InStep past.tables n (next_moment past ∷ past.moments)
 goes-on past n g last next = record {
@@ -353,7 +353,7 @@ picks-up past n sound defined mode green stands walks = record {
       others = others;
     }
 
--- ---- what the frame of a cabinet in step shows
+-- ---- what the frame of a coordinated cabinet shows
 
 shows-red : (t : Tables) (n p c : ℕ) (past : List Moment) (x : Colour) → c < window t n → OtherStands t n p c past x → x ≡ Red
 shows-red t n p c past Green early s = absurd (omega (arith, s.in_time.after))

@@ -14,7 +14,7 @@ use Rattle.sig_tables.specs.Looking.{last_frame}
 use Rattle.sig_tables.specs.Choosing.{are_all_red, are_coordinated_green, mode_reached, leaves_start, is_in_step, mode_commanded, mode_running, mode_staged, mode_after, mode_sought}
 use Rattle.tick_laws.proofs.Sought.{Numbered, IsStage, EachStage, now-stage}
 
--- a mode of a pattern: it was in step before, and is defined
+-- a mode of a pattern: it was coordinated before, and is defined
 abbrev pub ModeGoesOn : Tables → ℕ → Frame → Mode → Type 0
 ModeGoesOn t v f (Coord n) = (is_in_step f v n ≡ true) × (is_defined t n ≡ true)
 ModeGoesOn t v f mode = Unit {0}
@@ -57,12 +57,12 @@ after Flash t v n on past k = split (n == 255)
     split false = tt
 after _ t v n on past k = staged _ t v n (last_frame past) (now-stage t on past k)
 
--- a tick seeks a pattern's mode only after a frame that was in step with it
+-- a tick seeks a pattern's mode only after a frame that was coordinated in it
 pub sought-goes : (t : Tables) (v n : ℕ) (on : List ℕ) (past : List Moment) → Numbered (last_frame past).mode
     → ModeGoesOn t v (last_frame past) (mode_sought t v n on past)
 sought-goes t v n on past k = after (last_frame past).mode t v n on past k
 
--- modes that a test tells apart, by the pattern that they name
+-- modes that a test distinguishes, by the pattern that they name
 abbrev is_coord : Mode → Bool
 is_coord (Coord n) = true
 is_coord mode = false
@@ -75,7 +75,7 @@ pattern_in mode = 0
 apart : (mode : Mode) (n : ℕ) → is_coord mode ≡ false → mode ≡ Coord n → ⊥
 apart mode n f e = false≢true (sym f ∙ ap is_coord e)
 
--- a frame is in a pattern's mode where its tick went on in it, or sought it and found its coordinated phases Green
+-- a frame is in a pattern's mode where its tick continued in it, or sought it and found its coordinated phases Green
 pub reached-coord : (mode : Mode) (t : Tables) (veh : List Colour) (n : ℕ) → mode_reached mode t veh ≡ Coord n
     → (mode ≡ Coord n) ⊎ ((mode ≡ Seek n) × (are_coordinated_green t n veh ≡ true))
 reached-coord (Seek k) t veh n e = split (are_coordinated_green t k veh) refl e

@@ -84,7 +84,7 @@ side-mutual t p q h = elim (one-side t p q h) [
 side-across : (t : Tables) (p q : ℕ) → Sound t → are_of_one_side t p q ≡ true → ring_of t p ≢ ring_of t q → are_concurrent t p q ≡ true
 side-across t p q sound h ne = sound.side p p q (own t p (side-enabled t p q h).0) h ne
 
--- what is of the side of q, in another ring than p that is of it too, goes with p
+-- what is of the side of q, in a different ring from p that is of it too, goes with p
 side-joined-across : (t : Tables) (p q r : ℕ) → Sound t → are_of_one_side t p q ≡ true → are_of_one_side t q r ≡ true → ring_of t p ≢ ring_of t r
     → are_of_one_side t p r ≡ true
 side-joined-across t p q r sound h g ne = beside t p r (sound.side q p r (side-mutual t p q h) g ne)

@@ -1,4 +1,4 @@
--- Where the signals stand on Green alone, incompatible phases never both show one.
+-- Where the signals are only on Green, incompatible phases never both show one.
 use Rattle.std.proofs.Common.{◌≡◌, inl, inr, ℕ, true, false, not, ◌&&◌, ◌==◌, List, refl}
 use Rattle.std.proofs.lemmas.Bool.{cases_Bool, and_parts, both_ways}
 use Rattle.sig_types.specs.declared.frame.Colour.TheVariants.{Green}

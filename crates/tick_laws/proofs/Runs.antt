@@ -13,7 +13,7 @@ same-self Yellow = refl
 same-self Clear = refl
 same-self Red = refl
 
--- a colour that goes on has run one longer, and its times are those latched before
+-- a colour that continues has run one longer, and its times are those latched before
 pub run-on : (p : ℕ) (c : Colour) (m : Moment) (past : List Moment) → colour_of m.frame p ≡ c → run p c (m ∷ past) ≡ run p c past + 1
 run-on p c m past e = rw (e, same-self c) refl
 

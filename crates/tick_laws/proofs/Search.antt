@@ -14,7 +14,7 @@ use Rattle.tick_laws.specs.Search.{stands, is_walk, stands_locked, stands_presse
 use Rattle.sig_tables.proofs.Called.{called, called-more, called-on, frame-same}
 use Rattle.sig_types.proofs.Sets.{in-phases}
 
--- the calls that a tick sees: locked since the last frame or standing at its moment, and not served by it
+-- the calls that a tick sees: locked since the last frame or present at its moment, and not served by it
 abbrev calls_seen : (Frame → ℕ → Bool) → (Tables → Field → ℕ → Bool) → (Moment → List ℕ) → Past → List ℕ
 calls_seen serves locks stood past = called (serves (moment_seen past).frame) locks past.heard (stood (moment_seen past))
 
@@ -22,7 +22,7 @@ nothing : (b : Bool) → (b && false) ≡ false
 nothing true = refl
 nothing false = refl
 
--- the calls that a moment keeps, where none stands at first and each tick keeps those that it sees
+-- the calls that a moment keeps, where none is there at first and each tick keeps those that it sees
 record SearchKeeps (serves : Frame → ℕ → Bool) (locks : Tables → Field → ℕ → Bool) (stood : Moment → List ℕ) : Type 0 where
   first : (t : Tables) → stood (first_moment t) ≡ []
   next : (past : Past) → stood (next_moment past) ≡ calls_seen serves locks stood past

@@ -1,4 +1,4 @@
--- What a tick in the pattern sees follows from how its view is made, and from what stands on.
+-- What a tick in the pattern sees follows from how its view is made, and from what is on.
 use Rattle.std.proofs.Common.{◌≡◌, ◌≢◌, ◌⊎◌, inl, inr, ℕ, Bool, true, false, not, ◌&&◌, ◌||◌, List, Option, Some, refl, sym, ◌∙◌, ap, subst}
 use Rattle.std.proofs.lemmas.Bool.{cases_Bool, false≢true, and_parts, and_from}
 use Rattle.sig_types.specs.declared.frame.Colour.{Colour}
@@ -20,7 +20,7 @@ use Rattle.sig_tables.specs.View.{View, on_phase, ended_of}
 use Rattle.sig_tables.proofs.Below.{coordinated-enabled}
 use Rattle.tick_laws.specs.Zero.{Sees}
 
--- how the view is made, and what stands on in its frame
+-- how the view is made, and what is on in its frame
 pub record Made (v : View) (n : ℕ) (vehicle pedestrian detectors : List ℕ) : Type 0 where
   pub mode : v.mode ≡ Coord n
   pub sequence : v.sequence ≡ sequence_in v.tables v.mode

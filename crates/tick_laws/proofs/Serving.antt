@@ -1,5 +1,5 @@
--- Along a lawful history a pattern forces off served phases alone: what holds of a cabinet in step with a pattern is kept by each
--- tick, and a download ends the step.
+-- Along a lawful history a pattern forces off only served phases: what holds of a cabinet coordinated in a pattern is
+-- kept by each tick, and a download ends the step.
 use Rattle.std.proofs.Common.{◌≡◌, inl, inr, ℕ, ◌+◌, ◌≤◌, true, false, not, ◌&&◌, ◌==◌, List, [], ◌∷◌, Option, Some, None, refl, sym, ◌∙◌, ap, subst, arith}
 use Rattle.std.proofs.lemmas.Bool.{cases_Bool, and_parts, both_ways, false≢true, not-true, leb-true}
 use Rattle.sig_types.specs.declared.frame.Colour.{Colour}
@@ -47,14 +47,14 @@ record Carried (t : Tables) (version : ℕ) (moments : List Moment) : Type 0 whe
 
 -- ---- one tick
 
--- a tick in a pattern's mode follows a frame in step with it
+-- a tick in a pattern's mode follows a frame coordinated in it
 goes : (past : Past) (n : ℕ) → Numbered (last_frame past.moments).mode → mode_seen past ≡ Coord n
     → (is_in_step (last_frame past.moments) past.version n ≡ true) × (is_defined past.tables n ≡ true)
 goes past n numbered mode =
     subst (ModeGoesOn past.tables past.version (last_frame past.moments)) mode
     (sought-goes past.tables past.version (command_now past) (preempts_on past.heard (last_moment past.tables past.moments)) past.moments numbered)
 
--- before any tick nothing is in step
+-- before any tick nothing is coordinated
 none-in-step : (version n : ℕ) → is_in_step (last_frame []) version n ≡ true → ⊥
 none-in-step version n h = false≢true h
 
@@ -124,7 +124,7 @@ forces-served past h c p = by (mode_seen past) refl
     by (Coord n) e forced = off-served past n p (in-step past n h c e) (forced-off past n p e forced)
     by _ e forced = unbound (ap bound e) forced
 
--- the frame is in step where its tick went on in step, or picked the pattern up
+-- the frame is coordinated where its tick continued coordinated, or picked the pattern up
 next-in-step : (past : Past) (n : ℕ) → Holds past.tables past.moments → FrameStands past.tables (next_moment past).frame
     → Carried past.tables past.version past.moments → OnGreen (last_frame past.moments) → OnGreen (next_moment past).frame
     → (next_moment past).frame.mode ≡ Coord n → InStep past.tables n (next_moment past ∷ past.moments)
@@ -160,7 +160,7 @@ ticked past h stands c last next = record {
     step : (n : ℕ) → (next_moment past).frame.mode ≡ Coord n → InStep past.tables n (next_moment past ∷ past.moments)
     step n mode = next-in-step past n h stands c last next mode
 
--- after a download no frame is in step: the tables have a greater number
+-- after a download no frame is coordinated: the tables have a greater number
 installed : (old new : Tables) (version : ℕ) (moments : List Moment) → Carried old version moments → Carried new (version + 1) moments
 installed old new version moments c = record {
   numbered = let le : (last_frame moments).version ≤ version = c.numbered in omega arith;
@@ -198,7 +198,7 @@ after opening (Ask request ∷ events) l = let a : After opening events = after 
 after opening (Cancel number ∷ events) l = let a : After opening events = after opening events (l.0, l.1.1) in ((tt, a.0), a.1)
 after opening (SetDrift gain lose ∷ events) l = let a : After opening events = after opening events (l.0, l.1.1) in ((tt, a.0), a.1)
 
--- a pattern forces off served phases alone
+-- a pattern forces off only served phases
 pub lawful-served : (opening : Tables) (events : List Event) → Lawful opening events → AllServed opening events
 lawful-served opening events l = (after opening events l).0
 
@@ -206,7 +206,7 @@ lawful-served opening events l = (after opening events l).0
 pub lawful-forces : (opening : Tables) (events : List Event) → Lawful opening events → ForcesServed (past_of opening events)
 lawful-forces opening events l = forces-served (past_of opening events) (holds opening events l) (after opening events l).1
 
--- what holds of a cabinet in step holds after all events
+-- what holds of a coordinated cabinet holds after all events
 pub lawful-step : (opening : Tables) (events : List Event) (n : ℕ) → Lawful opening events
     → is_in_step (last_frame (past_of opening events).moments) (past_of opening events).version n ≡ true
     → InStep (past_of opening events).tables n (past_of opening events).moments

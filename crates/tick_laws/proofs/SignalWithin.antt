@@ -28,7 +28,7 @@ use Rattle.tick_laws.proofs.Choices.{second, never-walk, unequal, differs-signal
 use Rattle.tick_laws.proofs.Next.{next-signal, mode_given, crossing_seen, walk_seen, signal_left, first-dont}
 use Rattle.tick_laws.proofs.Signals.{seen-dont, walk-stays, dont-stays, last-green}
 
--- a walk of so many ticks is no longer than its time, and a pedestrian clearance no longer than its own
+-- a walk of that many ticks is no longer than its time, and a pedestrian clearance no longer than its own
 abbrev WalkKept : ℕ → Tables → ℕ → Type 0
 WalkKept p t ran = ran ≤ walk_time t p
 

@@ -1,4 +1,5 @@
--- Walk and Flash stand only on Green, last their times and follow in order, where the pattern forces off served phases alone.
+-- Walk and Flash are only on Green, last their times and follow in order, where the pattern forces off only served
+-- phases.
 use Rattle.std.proofs.Common.{◌≡◌, ◌≢◌, ◌⊎◌, inl, inr, ℕ, Bool, true, false, if◌then◌else◌, ◌==◌, max, min, nat_le, List, [], refl, sym, ◌∙◌, ap, subst}
 use Rattle.std.proofs.lemmas.Bool.{cases_Bool, false≢true, leb-true}
 use Rattle.std.proofs.lemmas.Bool.Decides.{Decides-eqb}
@@ -133,7 +134,7 @@ walk-stays (AtMost walk clear) p t past Flash ne h =
     never-walk (nat_le (lesser_clear (AtMost walk clear) (pedestrian_clear_time (signal_latched p Flash t past) p)) (signal_run p Flash past)) h
 walk-stays l p t past Dont ne h = differs-signal Dont Walk refl (sym (dont-stays l p t past) ∙ h)
 
--- a signal that ends was not begun anew, so that what comes is what follows by itself
+-- a signal that ends was not begun again, so that what comes is what follows by itself
 by-itself : (w : Bool) (s next : Ped) → (if w then Walk else s) ≡ next → (w ≡ true → next ≡ Walk → ⊥) → next ≡ s
 by-itself true s next e never = absurd (never refl (sym e))
 by-itself false s next e never = sym e
@@ -169,7 +170,7 @@ signal-step past m p l w le dont e = record {
       );
 }
 
--- the signal at the next moment, by the lesser times of its mode
+-- the signal at the next moment, by the smaller times of its mode
 next-walks : (past : Past) (p : ℕ) → is_phase p ≡ true → WalkEnds past.moments (next_moment past) p
 next-walks past p ph =
     walk-step past.moments (next_moment past) p (lesser_in past.tables (mode_seen past) p) (walk_seen past p)
@@ -193,7 +194,7 @@ first-signals t p ph = record {
   flash = λ a b. absurd (b a);
 }
 
--- the last frame of a history, where the pattern forces off served phases alone
+-- the last frame of a history, where the pattern forces off only served phases
 pub last-green : (opening : Tables) (events : List Event) → AllServed opening events → OnGreen (last_frame (past_of opening events).moments)
 last-green opening events served = at-last OnGreen first-green (past_of opening events).moments (each-on-green opening events served)
 

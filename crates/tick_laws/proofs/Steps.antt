@@ -1,4 +1,4 @@
--- Every correction of the offset goes on by such a step.
+-- Every correction of the offset advances by such a step.
 use Rattle.std.proofs.Common.{◌≡◌, inl, inr, ℕ, Bool, true, false, not, nat_le, ◌==◌, ◌&&◌, ◌||◌, if◌then◌else◌, ◌+◌, ◌%◌, ◌<◌, List, refl, ◌∙◌, ap, arith}
 use Rattle.std.proofs.Math.Nat.{mod-eq_of_lt, mod_self}
 use Rattle.std.proofs.lemmas.Bool.{cases_order, leb-true, leb-false}
@@ -12,7 +12,7 @@ plain k c below = elim (cases_order (c + 1) k.cycle) [
   | inr (inr g) ↦ absurd (omega arith)
 ]
 
--- it stands, or goes on as time does
+-- it waits, or continues as time does
 stood : (k : Correction) (c : ℕ) (a b : Bool) → c < k.window → c < k.cycle → Steps k.cycle k.window c (if a && not b then c else tick_later k.cycle c)
 stood k c true true inside below = plain k c below
 stood k c true false inside below = Stands refl inside

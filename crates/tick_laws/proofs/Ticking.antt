@@ -103,7 +103,7 @@ record Tick (v : View) (n c : ℕ) (l : Moment) (past : List Moment) (m : Moment
   lasting : v.past ≡ l ∷ past
   before : InTime v.tables n c v.past
 
--- how the counter comes to 0: from the end of the cycle, or by a stand at 0
+-- how the counter totals 0: from the end of the cycle, or by a wait at 0
 to-zero : (cycle window c d : ℕ) → Steps cycle window c d → d ≡ 0 → (c ≡ 0) ⊎ (c + 1 ≡ cycle)
 to-zero cycle window c d (Stands same inside) z = inl (sym same ∙ z)
 to-zero cycle window c d (Plain next within) z = absurd (omega arith)

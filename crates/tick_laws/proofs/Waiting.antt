@@ -31,7 +31,7 @@ use Rattle.tick_laws.proofs.Search.{vehicle-found, pedestrian-found}
 use Rattle.tick_laws.proofs.Choices.{leaves, differs}
 use Rattle.tick_laws.proofs.Next.{next-colour, next-signal, crossing_seen, walk_seen, signal_left}
 
--- ---- a call stands until it is served
+-- ---- a call remains until it is served
 
 unserved : (s b : Bool) → (s || b) ≡ false → (s ≡ false) × (b ≡ false)
 unserved true b h = absurd (false≢true (sym h))
@@ -57,7 +57,7 @@ kept serves locks h p (Ask request ∷ later) s n = kept serves locks h p later 
 kept serves locks h p (Cancel number ∷ later) s n = kept serves locks h p later s n
 kept serves locks h p (SetDrift gain lose ∷ later) s n = kept serves locks h p later s n
 
--- an input that locks a call which is not served makes it stand
+-- an input that locks a call which is not served makes it remain
 or-first : (a b : Bool) → a ≡ true → (a || b) ≡ true
 or-first true b h = refl
 or-first false b h = absurd (false≢true h)
@@ -99,9 +99,9 @@ vehicle-served past p ph green =
     (frame-same past.tables past.moments)
     ∙ rw green refl
 
--- ---- a call that stands is demand
+-- ---- a call that remains is demand
 
--- a tick wants each enabled Red phase that it sees called, but for one that the pattern omits
+-- a tick wants each enabled Red phase that it sees called, except one that the pattern omits
 in-demand : (pattern : Option ℕ) (t : Tables) (f : Frame) (vehicle pedestrian detectors : List ℕ) (p : ℕ) → is_phase p ≡ true
     → is_in vehicle p ≡ true → is_enabled t p ≡ true → same_colour (colour_of f p) Red ≡ true → omits pattern t p ≡ false
     → is_in (demand_in pattern t f vehicle pedestrian detectors) p ≡ true

@@ -18,7 +18,7 @@ use Rattle.tick_laws.proofs.Intervals.{Counted, so-far, one-more, fresh}
 use Rattle.tick_laws.proofs.Choices.{second, neither, never-yellow, unequal, differs, same-is}
 use Rattle.tick_laws.proofs.Next.{next-colour, first-red}
 
--- a yellow of so many ticks is no longer than its time, where it has one; nor is a red clearance
+-- a yellow of that many ticks is no longer than its time, where it has one; nor is a red clearance
 abbrev YellowKept : ℕ → Tables → ℕ → Type 0
 YellowKept p t ran = 0 < yellow_time t p → ran ≤ yellow_time t p
 

@@ -17,11 +17,11 @@ use Rattle.tick_laws.specs.Each.{EachMoment}
 abbrev pub called_at : List Moment → Moment → List ℕ
 called_at past m = demand_of m.tables (last_frame past) m.vehicle m.pedestrian m.detectors
 
--- the gap of p is over at m: it was Green and not active at each of so many last ticks
+-- the gap of p is over at m: it was Green and not active at each of that many last ticks
 abbrev pub has_gapped : List Moment → Moment → ℕ → Bool
 has_gapped past m p = not (has_maximum_recall m.tables p) && lasts (gap_time m.tables p) (λ x. is_in x.quiet p) (m ∷ past)
 
--- its maximum is over: it was Green and an incompatible phase was called at each of so many last ticks
+-- its maximum is over: it was Green and an incompatible phase was called at each of that many last ticks
 abbrev pub has_maxed : List Moment → Moment → ℕ → Bool
 has_maxed past m p = lasts (maximum_time m.tables p) (λ x. is_in x.opposed p) (m ∷ past)
 
@@ -65,8 +65,8 @@ EndsInTurn past m p = m.frame.mode ≡ Free → colour_of (last_frame past) p �
 abbrev pub EachEndsInTurn : List Moment → Type 0
 EachEndsInTurn moments = EachMoment (λ past m. (p : ℕ) → is_phase p ≡ true → EndsInTurn past m p) moments
 
--- where p is through, and q is called, which may not be on with it and stands in the first sequence: p ends as soon as the barrier allows
--- it, which is when the other ring can leave
+-- where p is through, and q is called, which may not be on with it and is in the first sequence: p ends as soon as the
+-- barrier allows it, which is when the other ring can leave
 abbrev pub EndsForOther : List Moment → Moment → ℕ → ℕ → Type 0
 EndsForOther past m p q = m.frame.mode ≡ Free → is_through past m p ≡ true → is_in (called_at past m) q ≡ true → are_incompatible m.tables p q ≡ true
     → is_in (order_of m.tables 1 (ring_of m.tables q)) q ≡ true → can_leave past m p (other_ring (ring_of m.tables p)) ≡ true

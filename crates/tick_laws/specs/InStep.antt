@@ -36,8 +36,8 @@ abbrev pub NamesOn : Tables → Frame → Type 0
 NamesOn t f = (r : ℕ) → (r ≡ 1) ⊎ (r ≡ 2)
     → (on_in f r ≡ 0) ⊎ ((is_enabled t (on_in f r) ≡ true) × (colour_of f (on_in f r) ≢ Red) × (ring_of t (on_in f r) ≡ r))
 
--- what is known where the last frame is in step with pattern n of these tables: it has a cycle, which the counter is in; every phase is in
--- time; and the walk of a phase that is not coordinated began with its Green
+-- what is known where the last frame is coordinated in pattern n of these tables: it has a cycle, which the counter is
+-- in; every phase is in time; and the walk of a phase that is not coordinated began with its Green
 pub record InStep (t : Tables) (n : ℕ) (moments : List Moment) : Type 0 where
   pub defined : is_defined t n ≡ true
   pub within : (last_frame moments).counter < cycle_time t n

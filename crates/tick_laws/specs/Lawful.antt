@@ -17,8 +17,8 @@ use Rattle.plan_facts.specs.Times.{TimesHold}
 use Rattle.plan_facts.specs.Plan.{PlanHolds}
 
 -- each enabled phase is in ring 1 or 2; concurrent phases are in different rings; phases of one side in different rings
--- are concurrent; the phases of start-up may be on together, and so may those that a defined pattern coordinates and those
--- that a preempt wants on; each defined pattern has a plan, in the order of which stands each enabled phase; and the times are
+-- are concurrent; the phases of start-up may be on together, and so may those that a defined pattern coordinates and
+-- those that a preempt wants on; each defined pattern has a plan, whose order has each enabled phase; and the times are
 -- long enough
 pub record Sound (t : Tables) : Type 0 where
   pub ring : (p : ℕ) → is_enabled t p ≡ true → (ring_of t p ≡ 1) ⊎ (ring_of t p ≡ 2)
@@ -44,8 +44,8 @@ is_dark Start = true
 is_dark Flash = true
 is_dark _ = false
 
--- the event may come after these: tables that are put in force are sound, and have the layout of those before them, but for
--- those put in force while nothing is on
+-- the event may come after these: tables that are put in force are sound, and have the layout of those before them,
+-- except those put in force while nothing is on
 abbrev pub IsLawfulAfter : Tables → List Event → Event → Type 0
 IsLawfulAfter opening before (Install t) =
     Sound t × ((is_dark (last_frame (past_of opening before).moments).mode ≡ true) ⊎ SameLayout (past_of opening before).tables t)

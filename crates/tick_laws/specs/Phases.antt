@@ -110,7 +110,8 @@ SignalStands t p past Walk = WalksFromGreen t p past
 SignalStands t p past Flash = FlashesFromGreen t p past
 SignalStands t p past Dont = Unit {0}
 
--- the signal that a tick gives: Walk begins only with Green, else it goes on by itself; and only a Green phase shows one
+-- the signal that a tick gives: Walk begins only with Green, else it advances by itself; and only a Green phase shows
+-- one
 pub record SignalMoves (t : Tables) (p : ℕ) (past : List Moment) (m : Moment) : Type 0 where
   pub tables : m.tables ≡ t
   pub how : ((signal_of m.frame p ≡ Walk) × (colour_of (last_frame past) p ≡ Red) × (signal_of (last_frame past) p ≡ Dont) × (1 ≤ walk_time t p))

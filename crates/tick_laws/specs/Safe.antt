@@ -54,7 +54,7 @@ pub record ClearanceEnds (past : List Moment) (m : Moment) (p : ℕ) : Type 0 wh
 abbrev pub EachClearanceEnds : List Moment → Type 0
 EachClearanceEnds moments = EachMoment (λ past m. (p : ℕ) → is_phase p ≡ true → ClearanceEnds past m p) moments
 
--- how long p is Green at least before it ends at m, of so much by its tables: less where it stands in a preempt's way
+-- how long p is Green at least before it ends at m, of that much by its tables: less where it is in a preempt's way
 abbrev pub least_until : Moment → ℕ → ℕ → ℕ
 least_until m p time =
     if is_in (goal_in m.tables m.frame.mode) p then time else lesser_green m.tables (stage_of m.frame.mode) time

@@ -16,6 +16,6 @@ abbrev pub IsServedAfter : Tables → List Event → Event → Type 0
 IsServedAfter opening before Tick = ForcesServed (past_of opening before)
 IsServedAfter opening before _ = Unit {0}
 
--- at each tick of these events the pattern forces off served phases alone
+-- at each tick of these events the pattern forces off only served phases
 abbrev pub AllServed : Tables → List Event → Type 0
 AllServed opening events = EachEvent (IsServedAfter opening) events

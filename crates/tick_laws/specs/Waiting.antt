@@ -7,7 +7,7 @@ use Rattle.sig_types.specs.Colour.{colour_of}
 use Rattle.sig_tables.specs.Past.{Event, Tick, History}
 use Rattle.sig_tables.specs.Decide.{decide, last_frame_of}
 
--- the history with these events behind its own; the newest stands first
+-- the history with these events after its own; the newest is first
 abbrev pub with_more : List Event → History → History
 with_more later h = record { tables = h.tables; command = h.command; clock = h.clock; events = later ++ h.events }
 

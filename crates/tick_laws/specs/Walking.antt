@@ -15,7 +15,7 @@ use Rattle.sig_tables.specs.Looking.{last_frame, signal_run, signal_latched}
 use Rattle.tick_laws.specs.Safe.{is_on}
 use Rattle.tick_laws.specs.Each.{EachMoment}
 
--- Walk and Flash stand only on a phase that is Green
+-- Walk and Flash are only on a phase that is Green
 abbrev pub OnGreen : Frame → Type 0
 OnGreen f = (p : ℕ) → is_phase p ≡ true → (signal_of f p ≡ Dont) ⊎ (colour_of f p ≡ Green)
 
@@ -23,7 +23,7 @@ OnGreen f = (p : ℕ) → is_phase p ≡ true → (signal_of f p ≡ Dont) ⊎ (
 abbrev pub EachOnGreen : List Moment → Type 0
 EachOnGreen moments = EachMoment (λ past m. OnGreen m.frame) moments
 
--- a walk that has run for so long lasted its time; at least what is left of it, where it is cut short
+-- a walk that has run for that long lasted its time; at least what is left of it, where it is cut short
 abbrev pub WalkLasted : Lesser → ℕ → ℕ → Type 0
 WalkLasted InFull time ran = ran ≡ time
 WalkLasted (AtMost walk clear) time ran = max 1 (min time walk) ≤ ran
@@ -33,7 +33,7 @@ abbrev pub FlashLasted : Lesser → ℕ → ℕ → Type 0
 FlashLasted InFull time ran = ran ≡ time
 FlashLasted (AtMost walk clear) time ran = min time clear ≤ ran
 
--- the times of p at m: in full, or cut short where it stands in a preempt's way
+-- the times of p at m: in full, or cut short where it is in a preempt's way
 abbrev pub left_at : Moment → ℕ → Lesser
 left_at m p = lesser_in m.tables m.frame.mode p
 

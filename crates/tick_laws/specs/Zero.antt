@@ -58,8 +58,8 @@ pub record AtZero (v : View) (n : ℕ) : Type 0 where
   pub held : (r : ℕ) → (r ≡ 1) ⊎ (r ≡ 2) → (colour_of v.frame (coordinated_phase v.tables n r) ≡ Green)
       ⊎ ((colour_of v.frame (coordinated_phase v.tables n r) ≡ Red) × (is_startable v (coordinated_phase v.tables n r) ≡ true))
 
--- between two local zeros, at counter c of the last moment: each phase that the plan serves stands in time, and one that it omits
--- is Red
+-- between two local zeros, at counter c of the last moment: each phase that the plan serves is in time, and one that it
+-- omits is Red
 pub record InTime (t : Tables) (n c : ℕ) (past : List Moment) : Type 0 where
   pub others : (p : ℕ) → is_enabled t p ≡ true → is_coordinated t n p ≡ false → is_omitted t n p ≡ false
       → OtherStands t n p c past (colour_of (last_frame past) p)

@@ -1,7 +1,6 @@
 //! What a call is promised: it waits until its phase serves it, a walk that was asked for comes with the next green of
-//! free operation, and the green that is in the way ends once the barrier allows it. The functions have no bodies: each
-//! represents the laws of its contract. (NEMA TS 2: locking memory, barrier; FHWA Signal Timing Manual: gap-out,
-//! max-out.)
+//! free operation, and the green that is in the way ends once the barrier allows it. The functions have no bodies:
+//! their contracts are the laws. (NEMA TS 2: locking memory, barrier; FHWA Signal Timing Manual: gap-out, max-out.)
 ghost use Rattle.std.specs.Prelude.{ℕ, ◌≡◌, List, true, false};
 ghost use Rattle.sig_types.specs.declared.frame.Colour.TheVariants.{Red};
 ghost use Rattle.sig_types.specs.declared.frame.Field.{Field};

@@ -1,6 +1,6 @@
 //! The ticks of a pattern: what the rings do keeps every phase in time between two local zeros, and at each local zero
-//! both coordinated phases are green and every other phase is red. The functions have no bodies: each represents the
-//! laws of its contract. (FHWA Signal Timing Manual: coordination, force-off, yield point.)
+//! both coordinated phases are green and every other phase is red. The functions have no bodies: their contracts are
+//! the laws. (FHWA Signal Timing Manual: coordination, force-off, yield point.)
 ghost use Rattle.std.specs.Prelude.{ℕ, ◌≡◌, ◌⊎◌, ◌∷◌, List, true, false};
 ghost use Rattle.sig_types.specs.declared.frame.Colour.TheVariants.{Red};
 ghost use Rattle.sig_types.specs.Phases.{is_in};

@@ -1,6 +1,6 @@
 //! A pattern's force-offs: what one step of the counter keeps of each phase between two local zeros, so that a phase is
 //! forced off only once it is served, and at local zero only the coordinated phases are on. The functions have no
-//! bodies: each represents the laws of its contract. (FHWA Signal Timing Manual: force-off, permissive period, yield
+//! bodies: their contracts are the laws. (FHWA Signal Timing Manual: force-off, permissive period, yield
 //! point.)
 ghost use Rattle.std.specs.Prelude.{ℕ, ◌<◌, ◌≤◌, ◌≡◌, ◌⊎◌, ◌+◌, ◌∷◌, List, true};
 ghost use Rattle.sig_types.specs.declared.frame.Colour.TheVariants.{Green, Red};
@@ -16,8 +16,8 @@ ghost use Rattle.sig_tables.specs.Moves.{Moves};
 ghost use Rattle.tick_laws.specs.Steps.{Steps};
 ghost use Rattle.tick_laws.specs.Phases.{Next, Other, OtherMoves, OtherGreen, OtherStands, Held, HeldMoves, HeldStands, SignalMoves, SignalStands};
 
-/// Whatever its target is, the counter stands only within the window, skips one tick at most up to it, and else goes on as time
-/// does, to local zero at the end of the cycle.
+/// Whatever its target is, the counter is only within the window, skips one tick at most up to it, and else continues
+/// as time does, to local zero at the end of the cycle.
 pub fn counter_steps()
     ensures { (k : Correction) (past : List ℕ) (target : ℕ) → last_counter past < k.cycle
         → Steps k.cycle k.window (last_counter past) (next_counter k past target) }

@@ -1,6 +1,6 @@
 //! What the definition of a tick gives: laws of safety, of calls, of the clock, of force-offs and of coordinated ticks,
-//! for every history. The functions have no bodies: each represents the laws of its contract. What is shown, by whom
-//! and how long, follows NEMA TS 2 and the FHWA Signal Timing Manual.
+//! for every history. The functions have no bodies: their contracts are the laws. What is shown, and for how long,
+//! follows NEMA TS 2 and the FHWA Signal Timing Manual.
 #![tactic(auto)]
 
 mod called;
@@ -36,24 +36,24 @@ pub use called::{calls_stay, greens_end_in_turn, walks_come};
 pub use coordinated_ticks::{coordinated_green_at_zero, held_begin_at_zero, moves_as_planned};
 pub use force_offs::{counter_steps, forced_off_served, held_return, others_in_time};
 
-/// At no tick are two incompatible phases both green, yellow or in red clearance, whatever the mode: in Free, in
-/// coordination, in preemption and on the way to flash. The tables opened with are sound (each phase in ring 1 or 2, lists of
-/// concurrency that agree with the rings, a start-up, patterns and preempts without conflict, plans that fit their cycle and
-/// times that are long enough), and each download is sound and keeps which phases are enabled, their rings and which are
-/// concurrent, but for one that comes while nothing is on.
+/// At no tick are two incompatible phases both green, yellow or in red clearance, in every mode: in Free, in
+/// coordination, in preemption and on the way to flash. The tables opened with are sound (each phase in ring 1 or 2,
+/// lists of concurrency that agree with the rings, a start-up, patterns and preempts without conflict, plans that fit
+/// their cycle and times that are long enough), and each download is sound and keeps which phases are enabled, their
+/// rings and which are concurrent, except one that comes while nothing is on.
 pub fn incompatible_apart()
     ensures { (h : History) → Lawful h.tables (since_opening h) → EachApart (past_at h).moments }
 {}
 
-/// At no tick are two phases of one ring green, yellow or in red clearance, whatever the mode.
+/// At no tick are two phases of one ring green, yellow or in red clearance, in every mode.
 pub fn one_each()
     ensures { (h : History) → Lawful h.tables (since_opening h) → EachOne (past_at h).moments }
 {}
 
 /// Each yellow and each red clearance that has ended lasted exactly the time that was in force at its first tick (FHWA
-/// Signal Timing Manual, intervals): in every history, whatever its mode, its tables and its downloads. In a lawful one
-/// each green lasted at least the minimum green that was, even if a pattern forces it off; in a stage of a preempt one
-/// that is in its way lasted at least as much of that as the preempt leaves it.
+/// Signal Timing Manual, intervals): in every history, for any mode, tables and downloads. In a lawful one each
+/// green lasted at least the minimum green that was, even if a pattern forces it off; in a stage of a preempt one that
+/// is in its way lasted at least as much of that as the preempt leaves it.
 pub fn intervals_last()
     ensures clearances { (h : History) → EachClearanceEnds (past_at h).moments }
     ensures greens { (h : History) → Lawful h.tables (since_opening h) → EachGreenEnds (past_at h).moments }
@@ -94,9 +94,9 @@ pub fn no_signal_outlasts()
     ensures clearances { (h : History) → EachFlashWithin (past_at h).moments }
 {}
 
-/// A phase that ends its green at a tick shows steady don't walk in that tick's frame, whatever the mode: to be served is asked of
-/// the signal that follows by itself, and no walk begins on yellow. Of a phase that a pattern forces off this is said in lawful
-/// histories, of others in every one.
+/// A phase that ends its green at a tick shows steady don't walk in that tick's frame, in every mode: to be served is
+/// asked of the signal that follows by itself, and no walk begins on yellow. Of a phase that a pattern forces off this
+/// is said in lawful histories, of others in every one.
 pub fn ended_shows_dont()
     ensures unforced { (h : History) (p : ℕ) → is_phase p ≡ true → colour_of (last_frame_of h) p ≡ Green → colour_of (decide h) p ≢ Green
         → is_forced (view_seen (past_at h)) p ≡ false → signal_of (decide h) p ≡ Dont }
@@ -104,8 +104,8 @@ pub fn ended_shows_dont()
         → colour_of (decide h) p ≢ Green → signal_of (decide h) p ≡ Dont }
 {}
 
-/// In every lawful history a phase that is not enabled shows red and steady don't walk, whatever the mode, and no two incompatible
-/// phases both show walk or flashing don't walk.
+/// In every lawful history a phase that is not enabled shows red and steady don't walk, in every mode, and no two
+/// incompatible phases both show walk or flashing don't walk.
 pub fn quiet_phases()
     ensures enabled { (h : History) → Lawful h.tables (since_opening h) → EachEnabled (past_at h).moments }
     ensures signals { (h : History) → Lawful h.tables (since_opening h) → EachQuiet (past_at h).moments }
@@ -128,7 +128,7 @@ pub fn keeps_to_plan()
         → InStep (past_at h).tables n (past_at h).moments }
 {}
 
-/// Ticks of Start and Free force no phase off: so the laws of greens and walks hold of them whatever the tables are.
+/// Ticks of Start and Free force no phase off: so the laws of greens and walks hold of them for any tables.
 pub fn plain_serves()
     ensures greens { (h : History) → Plain h.tables (since_opening h) → EachGreenEnds (past_at h).moments }
     ensures on_green { (h : History) → Plain h.tables (since_opening h) → EachOnGreen (past_at h).moments }

@@ -35,7 +35,7 @@ fn limits(mode: u8, dwell: u32, add: u32, subtract: u32) -> Limits
     }
 }
 
-/// Lets a count run on for so many ticks, from a frame with this target.
+/// Lets a count run on for that many ticks, from a frame with this target.
 fn run(count: &mut Count, plan: &Plan, limits: Limits, target: u32, ticks: u32)
     requires add { 0 < limits.add }
     requires subtract { 0 < limits.subtract }
@@ -62,7 +62,7 @@ fn comes_onto_the_offset_as_worked_by_hand(rt: HostRuntime) {
     let midnight = (700, 2, 100, 50, 30);
     // the target at the pickup, ticks since, the counter then
     let rows = [
-        // one tick late: eight local zeros, 1,000 ticks apart, then 99 more stands
+        // one tick late: eight local zeros, 1,000 ticks apart, then 99 more waits
         (dwell, 1, 100, 0),
         (dwell, 1, 101, 1),
         (dwell, 1, 999, 899),
@@ -83,11 +83,11 @@ fn comes_onto_the_offset_as_worked_by_hand(rt: HostRuntime) {
         (shortway, 30, 29, 58),
         (shortway, 30, 30, 60),
         (shortway, 30, 31, 61),
-        // 20 ticks short of local zero: one cycle of 20 stands, at every second tick
+        // 20 ticks short of local zero: one cycle of 20 waits, at every second tick
         (add_only, 880, 38, 19),
         (add_only, 880, 39, 19),
         (add_only, 880, 40, 20),
-        // a midnight has moved the target: two cycles, of 100 stands each
+        // a midnight has moved the target: two cycles, of 100 waits each
         (midnight, 500, 799, 699),
         (midnight, 500, 800, 0),
         (midnight, 500, 900, 0),

@@ -9,7 +9,8 @@ use sig_tables::Tables;
 use sig_types::{Colour, Frame, Mode, Ped, PhaseSet};
 use std::test::Fail;
 
-/// What is seen of a frame of this mode in which phases 2 and 6 alone show a colour and are on; nothing was active or opposed.
+/// What is seen of a frame of this mode in which only phases 2 and 6 show a colour and are on; nothing was active or
+/// opposed.
 fn seen(colour: Colour, mode: Mode, counter: u32) -> Seen {
     let mut veh = [Colour::Red; 16];
     veh[1] = colour;
@@ -29,13 +30,13 @@ fn seen(colour: Colour, mode: Mode, counter: u32) -> Seen {
     }
 }
 
-/// One frame, and so many more that go on with it, at whose ticks no preempt input was on.
+/// One frame, and that many more that continue with it, at whose ticks no preempt input was on.
 fn push(frame_history: &mut FrameHistory, t: &Tables, seen: &Seen, more: u32) {
     frame_history.push(seen, t, PhaseSet::empty());
     frame_history.push_again(seen.active, seen.opposed, more);
 }
 
-/// A phase alone.
+/// Only one phase.
 fn alone(phase: u8) -> PhaseSet
     requires above { 0 < phase }
     requires within { phase ≤ 16 }

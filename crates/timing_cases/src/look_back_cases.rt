@@ -4,7 +4,7 @@ use look_back::{Look, Seen, Window};
 use sig_types::{Colour, Frame, Mode, Ped, PhaseSet};
 use std::test::Fail;
 
-/// What is seen of a frame in which phase 2 alone is not red, opposed by another phase or not.
+/// What is seen of a frame in which only phase 2 is not red, opposed by another phase or not.
 fn seen(second: Colour, is_opposed: bool) -> Seen {
     let mut veh = [Colour::Red; 16];
     veh[1] = second;

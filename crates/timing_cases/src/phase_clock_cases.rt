@@ -4,7 +4,7 @@ use phase_clock::Clocks;
 use sig_tables::Tables;
 use sig_types::{Colour, Frame, Mode, Ped, PhaseSet};
 
-/// A frame in which phase 2 alone is not red.
+/// A frame in which only phase 2 is not red.
 fn street(second: Colour) -> Frame {
     let mut veh = [Colour::Red; 16];
     veh[1] = second;

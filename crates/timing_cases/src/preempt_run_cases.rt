@@ -72,8 +72,8 @@ fn happens(preempts: &mut Preempts, tables: &mut Tables, on: &mut [u8; 2], event
     }
 }
 
-/// The mode that preemption asks for at a tick, each event standing with the tick that it comes before; free operation
-/// where it asks for none.
+/// The mode that preemption requires at a tick, each event listed with the tick that it precedes; free operation if it
+/// requires none.
 fn mode_at(tick: u32, tables: &Tables, events: &[(u32, Event)]) -> Mode {
     let mut tables = tables.copy();
     let mut preempts = Preempts::new();
@@ -146,7 +146,7 @@ fn an_input_calls_past_its_delay(rt: HostRuntime) {
     let events = [(10, On(1))];
     assert!(rt; mode_at(29, &tables, &events) == Mode::Free);
     assert!(rt; mode_at(30, &tables, &events) == Mode::Entry(1));
-    // one tick off begins the delay anew; off and on between two ticks does not
+    // one tick off begins the delay again; off and on between two ticks does not
     let broken = [(10, On(1)), (29, Off(1)), (30, On(1))];
     assert!(rt; mode_at(49, &tables, &broken) == Mode::Free);
     assert!(rt; mode_at(50, &tables, &broken) == Mode::Entry(1));

@@ -23,7 +23,8 @@ fn put(tables: &mut Tables, cell: Cell, number: u32) {
 #[test]
 fn each_mode_of_a_split_asks_its_own(rt: HostRuntime) {
     let mut tables = Tables::std8();
-    // pattern 2 has split 3: phases 1 to 7 in modes 1 to 7 (0 is no mode, so 8 keeps its own), phases 2 and 9 marked as coordinated
+    // pattern 2 has split 3: phases 1 to 7 in modes 1 to 7 (0 is not a mode, so 8 keeps its own), phases 2 and 9 marked
+    // as coordinated
     for (column, number) in [(2, 90), (4, 3), (5, 1)] {
         put(&mut tables, Cell::Pattern { pattern: 2, column }, number);
     }

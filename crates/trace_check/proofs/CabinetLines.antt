@@ -95,7 +95,7 @@ book-acts s cab t runs b run lines =
     let same : cabinet_lines s cab t (passes_of runs) ≡ book_lines cab b = lines (passes_of runs) b run in
     cc same
 
--- what the book has written is due behind it
+-- what the book has written is expected after it
 pub book-said : (s : ScenarioContent) (cab : ℕ) (t : CabinetState) (runs : List (ℕ × ℕ)) (b : Book) (rest : Script) → HasRun s cab t (passes_of runs) b
     → ((journal : List ℕ) (x : Book) → HasRun s cab t journal x → cabinet_lines s cab t journal ≡ book_lines cab x)
     → say (acts_lines cab t.cabinet_history (round_acts s cab t (passes_of runs))) rest ≡ say (told_lines cab 0 (written_in b) (answered_in b)) rest

@@ -210,7 +210,7 @@ ticks-more most now k was new within is same few = λ j b below. from j b below 
     from j b below (inr apart) =
         subst (λ (x : Book). ticks_by_end x ≤ most) (sym (get_or-set_other now k j new b apart)) (few j b (omega (arith, below, length-set now k new)))
 
--- the notes of a round are those that are due at its head
+-- the notes of a round are those that are expected at its head
 pub head-due : (s : ScenarioContent) (round : ℕ) (ts : List CabinetState) (notes : List MasterNote) (rest : List CabinetState → Script) → map M notes ≡ notes_lines s 1 ts
     → round_script s round ts rest ≡ Says (R round) (say (map M notes) (cabinets_script s 1 [] ts rest))
 head-due s round ts notes rest same = ap (λ (lines : List Line). Says (R round) (say lines (cabinets_script s 1 [] ts rest))) (sym same)

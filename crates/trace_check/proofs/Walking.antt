@@ -20,7 +20,7 @@ pub whole-on : (a b : Script) (at mid : Place) (result : Result (Unit {0}) Check
 whole-on a b at mid (Ok done) w reads = let (next, v) = reads in (next, walks-on a b Ends at.left.now mid.left.now [] at.line mid.line next w v)
 whole-on a b at mid (Err fail) w reads = fails-on a b at mid fail w reads
 
--- of want of memory nothing is said
+-- of lack of memory nothing is said
 pub fails-none : (due : Script) (at : Place) (fail : CheckFail) → fail ≡ NoMemory → Fails due at fail
 fails-none due at fail is = subst (λ (x : CheckFail). Fails due at x) (sym is) tt
 

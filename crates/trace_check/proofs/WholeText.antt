@@ -44,7 +44,7 @@ use Rattle.trace_check.proofs.Walking.{leads-here, leads-on}
 use Rattle.trace_check.proofs.Taking.{said-text, texts-on, nothing-behind, after-round, merges-round, lines-round, after-many}
 use Rattle.trace_check.proofs.Watched.{come-at, numbered-at, opened-many}
 
--- so many rounds were read, by journals that the text tells; what was seen is what the cabinets have come to by these
+-- that many rounds were read, by journals that the text gives; what was seen is what the cabinets have reached by these
 pub record RoundsSoFar (s : ScenarioContent) (first : List CabinetState) (start at : Place) (done : ℕ) (c : ClosedLoop) (watched : ℕ) (old now : Seen) : Type 0 where
   pub journals : List (List (List ℕ))
   pub many : length journals ≡ done
@@ -110,7 +110,7 @@ pub rounds-seen : (s : ScenarioContent) (first : List CabinetState) (start at : 
 rounds-seen s first start at done c watched was now all so =
     record { journals = so.journals; all = so.many ∙ all; merges = so.merges; text_is = so.text_is; seen = so.seen }
 
--- all that is left of the text, with nothing behind it
+-- all that is left of the text, with nothing after it
 pub rest-seen : (s : ScenarioContent) (start rounds end behind : Place) (watched : ℕ) (first seen : Seen) (result : Result (Unit {0}) CheckFail)
     → ((rest : Script) → Leads (say (opening_lines 1 (opened_cabinet_states s s.cabinets)) rest) start rest rounds)
     → RoundsSeen s (opened_cabinet_states s s.cabinets) rounds end watched first seen → ((rest : Script) → Leads (Says (Z s.rounds) rest) end rest behind)
@@ -169,11 +169,11 @@ has-seen law text cab seen is = record {
       never c (subst (λ (n : ℕ). IsCabinet s n c) number numbered));
 }
 
--- bytes behind the end
+-- bytes after the end
 pub behind-end : (at : Place) → at.left.now ≢ [] → FaultsAt Ends at.left.now at.line at.line 11
 behind-end at some = stops-here Ends at.left.now at.line 11 (Beyond at.left.now refl some)
 
--- or in one whose text has a fault, or is not the compact text of what it tells
+-- or in one whose text has a fault, or is not the compact text of what it says
 pub refused-told : (json : List ℕ) → ((s : ScenarioContent) → IsScenario json s → ⊥) → (s : ScenarioContent) → Opens (S json) s → ⊥
 refused-told json none s opens =
     let same : json ≡ s.compact = cc (opens.0) in
@@ -185,7 +185,7 @@ other-told json s is differs t opens =
     let one : s ≡ t = one-scenario json s t is (subst (λ (x : List ℕ). IsScenario x t) (sym same) opens.1) in
     differs (ap (λ (u : ScenarioContent). u.compact) one ∙ sym same)
 
--- the answer of what is behind the first line is that of the text
+-- the answer of what follows the first line is that of the text
 pub rest-tells : (s : ScenarioContent) (line : Line) (text piece : List ℕ) (start : Place) (result : Result (Unit {0}) CheckFail) → Opens line s → IsCheckable text
     → piece ≡ line_text line → text ≡ piece ++ start.left.now → start.line ≡ 2 → ReadsWhole (script_of s) start result → Tells text result
 rest-tells s line text piece start result opens short told all second reads = from result reads
@@ -239,11 +239,11 @@ fault-answer none one text (Err (NotATrace g)) tells f first =
     inl (ap (λ (x : TraceFault). Err (NotATrace x)) (same-fault g f line rule))
 fault-answer none one text (Err NoMemory) tells f first = inr refl
 
--- the answer where the first line tells no scenario
+-- the answer where the first line has no scenario
 pub none-by : (json : List ℕ) (fail : CheckFail) → fail ≡ NotATrace (record { line = 1; rule = 3 }) → ((s : ScenarioContent) → Opens (S json) s → ⊥) → TellsNone (S json) fail
 none-by json fail is none = subst (λ (x : CheckFail). TellsNone (S json) x) (sym is) (none, refl, refl)
 
--- what a trace tells
+-- what a trace says
 pub kept-answer : ((text : List ℕ) → IsTrace text → TellsOfRun text) → (text : List ℕ) (result : Result (Unit {0}) CheckFail) → Tells text result
     → OnOk result (TellsOfRun text)
 kept-answer law text (Ok done) tells = law text tells.0

@@ -1,5 +1,4 @@
-//! A cabinet's round.
-//! Its journal is read, what it brings is brought, and the lines that come of it are expected.
+//! A cabinet's round. Its journal is read, the items that it names are brought, and the resulting lines are expected.
 
 ghost use Rattle.std.specs.Prelude.{◌≡◌, ◌≤◌, ℕ, List, [], drop, length, map, IfOk, IfErr, OnOk};
 ghost use Rattle.scenario_data.specs.Content.{ScenarioContent};

@@ -83,7 +83,7 @@ fn check_rounds<'a>(
     Ok(at)
 }
 
-/// Nothing is left behind the end.
+/// Nothing is left after the end.
 fn expect_nothing(at: Place) -> Result<(), CheckFail>
     ensures { ReadsWhole Ends at.entry result }
 {
@@ -94,7 +94,7 @@ fn expect_nothing(at: Place) -> Result<(), CheckFail>
     }
 }
 
-/// What comes behind the line of the scenario.
+/// What comes after the line of the scenario.
 fn check_rest(
     alloc: Global,
     start: Place,
@@ -142,7 +142,7 @@ fn are_same(bytes: &[u8], others: &[u8]) -> bool
     bytes == others
 }
 
-/// The scenario that a text tells by its compact text.
+/// The scenario that a text gives by its compact text.
 fn scenario_told(alloc: Global, json: &[u8]) -> Result<Scenario, CheckFail>
     ensures told { IfOk result (λ s. Opens (LineRow.S json.now) (scenario_content s)) }
     ensures runnable { IfOk result (λ s. Runnable (scenario_content s)) }
@@ -162,7 +162,7 @@ fn scenario_told(alloc: Global, json: &[u8]) -> Result<Scenario, CheckFail>
     }
 }
 
-/// The scenario that a first line tells.
+/// The scenario that a first line has.
 fn scenario_of(alloc: Global, line: &Line) -> Result<Scenario, CheckFail>
     ensures told { IfOk result (λ s. Opens line.now (scenario_content s)) }
     ensures runnable { IfOk result (λ s. Runnable (scenario_content s)) }
@@ -193,7 +193,7 @@ fn check_text(alloc: Global, text: &[u8], watched: u32, seen: &mut Seen) -> Resu
     }
 }
 
-/// What is to be said of a text.
+/// The answer to a text.
 fn answer(alloc: Global, text: &[u8], watched: u32, seen: &mut Seen) -> Result<(), CheckFail>
     ensures tells { Tells text.now result }
     ensures seen { OnOk result (TextSeen text.now watched seen.new) }
@@ -207,11 +207,11 @@ fn answer(alloc: Global, text: &[u8], watched: u32, seen: &mut Seen) -> Result<(
     check_text(alloc, text, watched, seen)
 }
 
-/// Whether a text is a trace: that of a run of the scenario in its first line, in whatever order its journals give. A
-/// text has at most 67,108,864 bytes. It is read line by line next to the run, which goes at most one round further;
-/// the fault is the first line that no trace continues with. If memory runs out it doesn't answer. By a trace the
-/// street of each cabinet is safe at every tick of 0.1 s, its versions are whole, and coordination is met (FHWA Signal
-/// Timing Manual: offset, transition).
+/// Whether a text is a trace: that of a run of the scenario in its first line, in the order that its journals give. A
+/// text has at most 67,108,864 bytes. It is read line by line while the run is computed, which is at most one round
+/// ahead; the fault is the first line with which no trace continues. If memory runs out, there is no answer. By a trace
+/// the street of each cabinet is safe at every tick of 0.1 s, its versions are whole, and coordination is met (FHWA
+/// Signal Timing Manual: offset, transition).
 pub fn check(alloc: Global, text: &[u8]) -> Result<(), CheckFail>
     ensures tells { Tells text.now result }
     ensures trace { IsTrace text.now → IsCheckable text.now → (result ≡ Ok tt) ⊎ (result ≡ Err CheckFail.NoMemory) }

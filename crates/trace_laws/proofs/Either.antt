@@ -15,7 +15,7 @@ use Rattle.trace_laws.specs.Script.{Script, Ends, Says, Hears, Lacking, Beyond, 
 use Rattle.trace_laws.proofs.Paths.{says-goes-on, hears-goes-on}
 use Rattle.trace_laws.proofs.Walking.{walks-none, walks-on, faults-on, walks-line, stops-here, whole-is-trace, fault-is-first}
 
--- what is behind the first piece
+-- what follows the first piece
 behind_piece : List ℕ → List ℕ
 behind_piece [] = []
 behind_piece (b ∷ bytes) = if b == 10 then bytes else behind_piece bytes
@@ -39,7 +39,7 @@ record Neither (a : Script) (text : List ℕ) (line : ℕ) : Type 0 where
   ends : Ended a text line → ⊥
   faults : (at rule : ℕ) → FaultsAt a text line at rule → ⊥
 
--- nor does what is behind lines that lead on
+-- nor does what follows lines that lead on
 neither-on : (a b : Script) (text left : List ℕ) (line next : ℕ) → Walks a text line b left next → Neither a text line → Neither b left next
 neither-on a b text left line next w n = record {
   ends = λ e. n.ends (let (last, v) = e in (last, walks-on a b Ends text left [] line next last w v));
@@ -74,7 +74,7 @@ no-way-out (Hears cab streams next) (b ∷ bytes) line n =
     (stops-here (Hears cab streams next) (line_text l ++ left) line (rule_for (J cab []) l)
     (Other l left (rule_for (J cab []) l) is ((λ journal same merge. heard journal left merge (e ∙ ap (λ (x : Line). line_text x ++ left) same)), refl)))))
 
--- a first line that tells a scenario
+-- a first line that has a scenario
 opened : (s : ScenarioContent) (first : Line) (left : List ℕ) → IsCheckable (line_text first ++ left) → Opens first s → (IsTrace (line_text first ++ left) → ⊥)
     → ((line rule : ℕ) → FirstFault (line_text first ++ left) line rule → ⊥) → ⊥
 opened s first left few opens untrue faultless =

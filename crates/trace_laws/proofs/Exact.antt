@@ -1,4 +1,4 @@
--- A text with a fault is no trace: by what it is for a line's text to tell the line.
+-- A text with a fault is not a trace: by what it means that a line's text describes the line.
 use Rattle.std.proofs.Common.{◌≡◌, ◌∙◌, ℕ, suc, List, [], ◌∷◌, ◌++◌, length, refl, sym, ap, subst, append_assoc}
 use Rattle.trace_text.specs.declared.lines.Line.{Line}
 use Rattle.trace_text.specs.Line.{line_text}
@@ -9,7 +9,7 @@ use Rattle.trace_laws.specs.Faults.{first_piece}
 use Rattle.trace_laws.specs.Laws.{LinesTell}
 use Rattle.trace_laws.specs.Script.{Script, Ends, Says, Hears, Goes, Refuses, Stops, Lacking, Beyond, Unread, Other, FaultIn}
 
--- what is refused does not go on
+-- what is refused does not continue
 refused-not-goes : (a b : Script) (line : Line) (more : List Line) (rule : ℕ) → Refuses a line rule → Goes a (line ∷ more) b → ⊥
 refused-not-goes Ends b line more rule refuses go = go
 refused-not-goes (Says due rest) b line more rule refuses go = refuses.0 go.0
@@ -18,7 +18,7 @@ refused-not-goes (Hears cab streams next) b line more rule refuses go = let (jou
 ended-not-goes : (a b : Script) (line : Line) (more : List Line) → a ≡ Ends → Goes a (line ∷ more) b → ⊥
 ended-not-goes a b line more e go = subst (λ (x : Script). Goes x (line ∷ more) b) e go
 
--- where a text stops, no line of a path stands
+-- where a text stops, there is no line of a path
 stops-not-line : LinesTell → (a b : Script) (left : List ℕ) (rule : ℕ) (line : Line) (more : List Line) (rest : List ℕ) → Stops a left rule → IsLine line → left ≡ line_text line ++ rest → Goes a (line ∷ more) b → ⊥
 stops-not-line tell a b left rule line more rest (Lacking unended) is e go = tell.some line rest is (sym e)
 stops-not-line tell a b left rule line more rest (Beyond l ended some) is e go = ended-not-goes a b line more ended go

@@ -18,7 +18,7 @@ pub text-append : (xs ys : List Line) → lines_text (xs ++ ys) ≡ lines_text x
 text-append [] ys = refl
 text-append (x ∷ xs) ys = ap (λ (t : List ℕ). line_text x ++ t) (text-append xs ys) ∙ sym (append_assoc (line_text x) (lines_text xs) (lines_text ys))
 
--- a fault behind some lines
+-- a fault after some lines
 pub fault-later : (a b : Script) (xs : List Line) (text : List ℕ) (n rule : ℕ) → Goes a xs b → FaultIn b text n rule → FaultIn a (lines_text xs ++ text) (length xs + n) rule
 fault-later a b xs text n rule go f = record {
   before = xs ++ f.before;
@@ -30,7 +30,7 @@ fault-later a b xs text n rule go f = record {
   stops = f.stops;
 }
 
--- a place of the script is that of a front
+-- a place of the script is that of a prefix
 pub front-of : (s : ScenarioContent) (before : List Line) (mid : Script) → Goes (script_of s) before mid → IsFrontOf s before
 front-of s before mid go =
     let (rest, on) = finishes mid in
@@ -67,7 +67,7 @@ same-heads cab a b (L other id outcome) = refl
 same-heads cab a b (A other pass reply) = refl
 same-heads cab a b (Z rounds) = refl
 
--- the rule where this line is due
+-- the rule where this line is expected
 rule-where : (s : ScenarioContent) (before : List Line) (due line : Line) (rule : ℕ) (test : Bool) → same_head due line ≡ test → rule ≡ (if test then rule_of line else 4) → MayFollow s before due
     → ((next : Line) → MayFollow s before next → same_head next line ≡ same_head due line) → IsRule s before line rule
 rule-where s before due line rule true e is may only = inr (due, may, e, is)

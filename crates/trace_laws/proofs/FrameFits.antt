@@ -93,7 +93,7 @@ target-fits (Coord k) t v n time f range o =
     omega (arith, less, most)
 target-fits _ t v n time f range o = omega arith
 
--- the counter of its tick: that of a pattern in step is within the cycle, else it is 0
+-- the counter of its tick: that of a coordinated pattern is within the cycle, else it is 0
 counter-fits : (mode : Mode) (t : Tables) (v n target : ℕ) (f : Frame) (past : List Moment) (veh : List Colour) → InRange t → Obeys t v f n mode
     → ((k : ℕ) → mode_reached mode t veh ≡ Coord k → counter_in t mode target past < cycle_time t k) → counter_in t mode target past < 2 ^ 32
 counter-fits (Coord k) t v n target f past veh range o within =

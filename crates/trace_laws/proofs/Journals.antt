@@ -18,12 +18,12 @@ times-run : (p q n : ℕ) → times p (replicate n q) ≡ (if p == q then n else
 times-run p q zero = grind arith
 times-run p q (suc n) = grind (arith, times-run p q n)
 
--- how often a pass stands in the journal is the sum over its runs
+-- how often a pass is in the journal is the sum over its runs
 pub added : (p : ℕ) (runs : List (ℕ × ℕ)) → times p (passes_of runs) ≡ events_in p runs
 added p [] = refl
 added p (run ∷ runs) = times-append p (replicate run.1 run.0) (passes_of runs) ∙ grind (arith, times-run p run.0 run.1, added p runs)
 
--- a journal's line whose sums are the lengths of the streams goes on
+-- a journal's line whose sums are the lengths of the streams continues
 pub journal-goes : (cab : ℕ) (streams : List (List Item)) (next : List ℕ → Script) (runs : List (ℕ × ℕ)) → AreLongest runs → ((p : ℕ) → events_in p runs ≡ length (get_or streams p []))
     → Goes (Hears cab streams next) (J cab runs ∷ []) (next (passes_of runs))
 journal-goes cab streams next runs are sums =

@@ -1,4 +1,4 @@
--- The lines of what comes to a cabinet: its frames, replies and ends of loads have the numbers of a line.
+-- The lines of what arrives at a cabinet: its frames, replies and ends of loads have the numbers of a line.
 use Rattle.std.proofs.Common.{◌≡◌, ◌<◌, ◌≤◌, ◌+◌, ◌^◌, ◌++◌, ◌∷◌, [], inl, inr, ℕ, zero, suc, Bool, true, false, if◌then◌else◌, List, length, Option, Some, None, ap, arith}
 use Rattle.std.specs.Prelude.{IfSome}
 use Rattle.std.specs.List.{AllByRecursion}

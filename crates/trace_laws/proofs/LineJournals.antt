@@ -123,7 +123,7 @@ times-more p q journal = split (p == q)
     split true = omega arith
     split false = omega arith
 
--- each pass that stands in a journal has items
+-- each pass that is in a journal has items
 pub all-early : (streams : List (List Item)) (journal : List ℕ) → AreFive streams → ((p : ℕ) → times p journal ≤ length (get_or streams p [])) → AllEarly journal
 all-early streams [] five few = tt
 all-early streams (q ∷ journal) five few = (
@@ -143,7 +143,7 @@ all-early streams (q ∷ journal) five few = (
     early : q ≤ 4
     early = low (nat_le q 4) refl
 
--- a journal is as long as its passes stand in it
+-- a journal is as long as its passes are in it
 five-times : List ℕ → ℕ
 five-times journal = times 0 journal + times 1 journal + times 2 journal + times 3 journal + times 4 journal
 
@@ -160,7 +160,7 @@ as-long : (journal : List ℕ) → AllEarly journal → length journal ≤ five-
 as-long [] early = omega arith
 as-long (p ∷ journal) early = omega (arith, one-of-five p journal early.0, as-long journal early.1)
 
--- streams that a journal can tell: some ticks, and not too many items
+-- streams that a journal can describe: some ticks, and not too many items
 pub record CanBeTold (streams : List (List Item)) : Type 0 where
   pub five : AreFive streams
   pub few : (p : ℕ) → p < 4 → length (get_or streams p []) ≤ 1000000

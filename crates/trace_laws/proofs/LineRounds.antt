@@ -1,4 +1,4 @@
--- Round by round each line of a run is a line of a trace: by what each cabinet has come to.
+-- Round by round each line of a run is a line of a trace: by what each cabinet has reached.
 use Rattle.std.proofs.Common.{◌≡◌, ◌<◌, ◌≤◌, ◌+◌, ◌*◌, ◌^◌, ◌∷◌, [], inr, mul-le-mul, ℕ, zero, suc, List, length, map, get_or, refl, ap, arith}
 use Rattle.std.specs.List.{AllByRecursion}
 use Rattle.sig_types.specs.declared.notes.MasterNote.{MasterNote}
@@ -39,7 +39,7 @@ pub record LineLaws : Type 0 where
   pub cabinet_histories : CabinetHistoryLaws
   pub short : (s : ScenarioContent) (cab : ℕ) (c : CabinetContent) (answered : List (List Reply)) → RoundIsShort s cab c answered
 
--- what a cabinet with this number has come to after so many rounds
+-- what a cabinet with this number has reached after that many rounds
 record IsCabinetState (s : ScenarioContent) (cab done : ℕ) (t : CabinetState) : Type 0 where
   told : IsTold (opening_tables t.cabinet) (drift_in t.cabinet) t.cabinet_history
   answered : RepliesAre t.answered

@@ -1,4 +1,4 @@
--- Longest runs are those of the journal that they tell.
+-- Longest runs are those of the journal that they describe.
 use Rattle.std.proofs.Common.{◌≡◌, ◌≢◌, ◌<◌, ◌+◌, ◌∙◌, ℕ, zero, suc, List, [], ◌∷◌, ◌++◌, length, replicate, get_or, refl, sym, ap, subst, arith}
 use Rattle.trace_text.specs.IsLine.{AreLongest}
 use Rattle.cabinet_history.specs.Journals.{with_run, runs_of, passes_of}

@@ -1,4 +1,4 @@
--- In a cabinet history of octets all that is put into cells is octets, and so is what stands in the tables in force.
+-- In a cabinet history of octets all that is put into cells is octets, and so is what is in the tables in force.
 use Rattle.std.proofs.Common.{◌≡◌, ℕ, ◌+◌, ◌==◌, ◌++◌, ◌∷◌, [], Bool, true, false, List, length, map, Option, Some, None, Result, Ok, Err, sym, subst}
 use Rattle.std.specs.Prelude.{pos, negsuc, nat_le, IfOk, IfSome, is_ok, if◌then◌else◌}
 use Rattle.std.specs.List.{AllByRecursion}

@@ -87,7 +87,7 @@ value-octets (Octets octets) is fits = tagged-octets 4 octets.items (omega arith
 value-octets Null is fits = tagged-octets 5 [] (omega arith) fits tt
 value-octets (Name name) is fits = name-octets name.items is fits
 
--- what fits with others fits alone
+-- what fits with others fits by itself
 front-fits : (xs ys : List ℕ) → length (xs ++ ys) ≤ 1472 → length xs ≤ 1472
 front-fits xs ys fits = omega (arith, fits, length-append xs ys)
 

@@ -1,4 +1,4 @@
--- The words of a line tell the line, and so does its text.
+-- The words of a line give the line, and so does its text.
 use Rattle.std.proofs.Common.{◌≡◌, ℕ, ℤ, ◌<◌, ◌^◌, List, [], ◌∷◌, ◌++◌, get_or, drop, decimal, Option, Result, Ok, Err, refl, sym, ap, ◌∙◌, arith}
 use Rattle.std.proofs.Common.{◌==◌, append-nil}
 use Rattle.std.proofs.lemmas.List.{append_cancel_right}
@@ -122,7 +122,7 @@ same_load cab id (Err x) c i (Err y) low small fits below less also e =
 same_load cab id (Ok version) c i (Err y) low small fits below less also e = absurd (let told : 97 ≡ 114 = first_told 3 _ _ e in omega (arith, told))
 same_load cab id (Err x) c i (Ok v) low small fits below less also e = absurd (let told : 114 ≡ 97 = first_told 3 _ _ e in omega (arith, told))
 
--- the first word tells the kind
+-- the first word gives the kind
 kinds_told : (a b : Line) → line_words a ≡ line_words b → kind a ≡ kind b
 kinds_told a b e =
     let same : kind a ∷ [] ≡ kind b ∷ [] = sym (first_word a) ∙ word_told 0 _ _ e ∙ first_word b in
@@ -186,7 +186,7 @@ words_tell (L cab id r) b is also e = load_is cab id r is.1 b also e
 words_tell (A cab pass r) b is also e = reply_is cab pass r is.1 b also e
 words_tell (Z rounds) b is also e = end_is rounds is.1 b also e
 
--- a line of another kind than a scenario's
+-- a line of a different kind from a scenario's
 worded : (l : Line) → IsLine l → (kind l ≡ 83 → ⊥) → IsWorded l
 worded (S json) is other = absurd (other refl)
 worded (F cab tick veh ped m counter target version) is other = is
@@ -222,7 +222,7 @@ scenario_is : (json : List ℕ) (b : Line) → front (S json) ≡ front b → S 
 scenario_is json (S text) e = ap S (sym (append-nil json) ∙ ap (drop 2) e ∙ append-nil text)
 scenario_is json b e = absurd (let told = fronts_told (S json) b e in omega (arith, told))
 
--- a line is told by its text without the newline
+-- a line is determined by its text without the newline
 pub same_front : (a b : Line) → IsLine a → IsLine b → front a ≡ front b → a ≡ b
 same_front (S json) b is also e = scenario_is json b e
 same_front a b is also e = other_is a b is also (λ scenario. omega (arith, scenario)) e

@@ -1,4 +1,4 @@
--- The word of a mode tells the mode.
+-- The word of a mode gives the mode.
 use Rattle.std.proofs.Common.{◌≡◌, ℕ, ◌<◌, ◌^◌, List, [], ◌∷◌, ◌++◌, get_or, drop, decimal, refl, sym, ap, ◌∙◌, arith}
 use Rattle.std.proofs.lemmas.List.{append_cancel_right}
 use Rattle.sig_types.specs.declared.frame.Mode.{Mode}

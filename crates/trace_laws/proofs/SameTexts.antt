@@ -1,4 +1,4 @@
--- The text of some lines tells the lines: each ends at its newline.
+-- The text of some lines gives the lines: each ends at its newline.
 use Rattle.std.proofs.Common.{◌≡◌, ℕ, ◌+◌, List, [], ◌∷◌, ◌++◌, length, refl, sym, ap, ◌∙◌, arith, append_assoc}
 use Rattle.std.proofs.lemmas.List.{length-append}
 use Rattle.trace_text.specs.declared.lines.Line.{Line}

@@ -1,4 +1,4 @@
--- The text of each kind of word tells its value.
+-- The text of each kind of word gives its value.
 use Rattle.std.proofs.Common.{◌≡◌, ℕ, ◌*◌, ◌<◌, ◌^◌, ℤ, pos, negsuc, suc, List, [], ◌∷◌, get_or, length, map, decimal, Option, Some, None, refl, sym}
 use Rattle.std.proofs.Common.{ap, ◌∙◌, arith, lit<}
 use Rattle.std.proofs.lemmas.Fmt.{decimal_injective, signed_decimal_injective}

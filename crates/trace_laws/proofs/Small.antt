@@ -30,12 +30,12 @@ use Rattle.trace_laws.proofs.Runs.{path-is-run}
 use Rattle.trace_laws.proofs.Faults.{fault-of}
 use Rattle.trace_laws.proofs.Texts.{lines-tell}
 
--- bytes without a newline are no line
+-- bytes without a newline are not a line
 unended-no-line : (bytes : List ℕ) → Lacks 10 bytes → IsNoLine bytes
 unended-no-line bytes lacks line is e =
     held 10 (front line) [] (subst (λ (x : List ℕ). Lacks 10 x) (e ∙ front_ended line) lacks)
 
--- a number that tells the lines below apart
+-- a number that distinguishes the lines below
 abbrev mark : Line → ℕ
 mark (F cab tick veh ped mode counter target version) = colour_letter (get_or veh 0 Red)
 mark (R round) = 100 + round
@@ -90,11 +90,11 @@ one-journal = journal-text 1 4 1 (lit< tt) (lit< tt) (lit< tt)
 one-end : line_text (Z 1) ≡ codes "Z 1\n"
 one-end = end-text 1 (lit< tt)
 
--- what the cabinet has come to at first
+-- what the cabinet has reached at first
 abbrev came : List CabinetState
 came = opened_cabinet_states smallest smallest.cabinets
 
--- the places of the script behind the first line, behind the second, and behind the journal
+-- the places of the script after the first line, after the second, and after the journal
 abbrev at_round : Script
 at_round = say (head_lines smallest 1 came) (cabinets_script smallest 1 [] came (rounds_script smallest 2 0))
 
@@ -112,7 +112,7 @@ begun : Goes (script_of smallest) (first_line ∷ R 1 ∷ []) at_journal
 unfolding smallest
 begun = (refl, (refl, refl))
 
--- the tick is all that comes to the cabinet
+-- the tick is all that arrives at the cabinet
 abbrev cabinet : CabinetContent
 cabinet = record { base = Std8; cells = []; pattern = 0; clock = 0; section = 0; gain = 0; lose = 0 }
 
@@ -154,7 +154,7 @@ one-run cab pass n few low some small = (
 pub whole : IsBehindFirst smallest (ended (small_lines ++ codes "Z 1" ∷ []))
 whole = (first_line ∷ R 1 ∷ journal_line 1 4 1 ∷ Z 1 ∷ [], path-is-run smallest _ ended_well, rw (first-text, one-round, one-journal, one-end) refl)
 
--- the text leaves the script behind some lines
+-- the text leaves the script after some lines
 leaves : (text : List ℕ) (before : List Line) (left : List ℕ) (mid : Script) (rule : ℕ) → text ≡ lines_text before ++ left → Goes (script_of smallest) before mid → Stops mid left rule
     → FaultOf smallest text (length before) rule
 leaves text before left mid rule is go stops =

@@ -1,4 +1,4 @@
--- What the texts of lines tell, and that the lines of a front are lines of a trace.
+-- What the texts of lines say, and that the lines of a prefix are lines of a trace.
 use Rattle.std.proofs.Common.{◌≡◌, ◌∙◌, ◌+◌, ◌==◌, ℕ, false, List, [], ◌∷◌, ◌++◌, length, refl, sym, ap, arith, append_assoc}
 use Rattle.std.proofs.lemmas.Bool.{ne_eqb}
 use Rattle.std.proofs.lemmas.List.{length-append}
@@ -13,7 +13,7 @@ use Rattle.trace_laws.specs.Laws.{LinesTell}
 use Rattle.trace_laws.proofs.NoNewline.{no_newline}
 use Rattle.trace_laws.proofs.SameLines.{front, front_ended, same_front}
 
--- a line, its newline, and what is behind it
+-- a line, its newline, and what follows it
 cut-first : (l : Line) (rest : List ℕ) → line_text l ++ rest ≡ front l ++ 10 ∷ rest
 cut-first l rest = ap (λ (text : List ℕ). text ++ rest) (front_ended l) ∙ append_assoc (front l) (10 ∷ []) rest
 

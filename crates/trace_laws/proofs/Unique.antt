@@ -1,4 +1,4 @@
--- What follows a front is one line, but for journals; a whole run ends; and rounds by any merges begin one.
+-- What follows a front is one line, except journals; a whole run ends; and rounds by any merges begin one.
 use Rattle.std.proofs.Common.{◌∙◌, inl, inr, List, [], ◌∷◌, ◌++◌, length, sym, ap, subst, append_assoc}
 use Rattle.std.proofs.Common.{◌+◌}
 use Rattle.trace_text.specs.declared.lines.Line.{Line}

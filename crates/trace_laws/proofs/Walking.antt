@@ -1,4 +1,4 @@
--- Lines that stand in a text, and lead from one place of the script to another; and where it leaves the script.
+-- Lines that are in a text, and lead from one place of the script to another; and where it leaves the script.
 use Rattle.std.proofs.Common.{◌≡◌, ◌+◌, ◌∙◌, ℕ, List, [], ◌∷◌, ◌++◌, length, refl, sym, ap, subst, arith, append_assoc, append-nil}
 use Rattle.std.proofs.lemmas.List.{length-append}
 use Rattle.trace_text.specs.declared.lines.Line.{Line}
@@ -26,7 +26,7 @@ walks-on a b c text mid rest line next last w v = record {
   goes = goes-append a b c w.taken v.taken w.goes v.goes;
 }
 
--- a fault behind a way
+-- a fault after a way
 pub faults-on : (a b : Script) (text mid : List ℕ) (line next at rule : ℕ) → Walks a text line b mid next → FaultsAt b mid next at rule → FaultsAt a text line at rule
 faults-on a b text mid line next at rule w f = record {
   n = length w.taken + f.n;
@@ -34,7 +34,7 @@ faults-on a b text mid line next at rule w f = record {
   fault = subst (λ (x : List ℕ). FaultIn a x (length w.taken + f.n) rule) (sym w.split) (fault-later a b w.taken mid f.n rule w.goes f.fault);
 }
 
--- the line that is due
+-- the expected line
 pub walks-line : (due : Line) (rest : Script) (text left : List ℕ) (line : ℕ) → text ≡ line_text due ++ left → Walks (Says due rest) text line rest left (line + 1)
 walks-line due rest text left line is = record {
   taken = due ∷ [];
@@ -51,7 +51,7 @@ stops-here a text line rule stops = record {
   fault = record { before = []; left = text; split = refl; place = refl; mid = a; goes = refl; stops = stops };
 }
 
--- behind a first line that tells a scenario, the text leads to the end: it is a trace
+-- after a first line that has a scenario, the text leads to the end: it is a trace
 pub whole-is-trace : (s : ScenarioContent) (first : Line) (left : List ℕ) (next : ℕ) → Opens first s → Walks (script_of s) left 2 Ends [] next → IsTrace (line_text first ++ left)
 whole-is-trace s first left next opens w =
     let (journals, are, is) = path-is-run s w.taken w.goes in (

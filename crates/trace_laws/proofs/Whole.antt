@@ -1,4 +1,4 @@
--- Of whole texts: a text has one first fault at most, a trace has none, and it tells its scenario and its journals.
+-- Of whole texts: a text has one first fault at most, a trace has none, and it gives its scenario and its journals.
 use Rattle.std.proofs.Common.{◌≡◌, ◌≢◌, ◌<◌, ◌∙◌, ◌+◌, ℕ, List, [], ◌∷◌, ◌++◌, length, refl, sym, ap, subst, arith}
 use Rattle.trace_text.specs.declared.lines.Line.{Line}
 use Rattle.trace_text.specs.declared.lines.Line.TheVariants.{S}
@@ -35,13 +35,13 @@ pub record Laws : Type 0 where
   pub runs : (bytes : List ℕ) (s : ScenarioContent) → IsScenario bytes s → Runnable s
   pub proper : (s : ScenarioContent) → Runnable s → (journals : List (List (List ℕ))) → AreJournals s journals → AreLines (run_lines s journals)
 
--- the line that tells a scenario is a line
+-- the line that has a scenario is a line
 opens-line : Laws → (first : Line) (s : ScenarioContent) → Opens first s → IsLine first
 opens-line laws first s opens =
     let run : Runnable s = laws.runs s.compact s opens.1 in
     subst (λ (x : Line). IsLine x) (sym opens.0) (run.one_line, tt)
 
--- and it tells one scenario
+-- and it gives one scenario
 opens-one : Laws → (first : Line) (s t : ScenarioContent) → Opens first s → Opens first t → s ≡ t
 opens-one laws first s t a b =
     let same : s.compact ≡ t.compact = same-json s.compact t.compact (sym a.0 ∙ b.0) in
@@ -52,7 +52,7 @@ fronts-proper proper s before run front =
     let (rest, (journals, are, is)) = front in
     are-first before rest (subst (λ (x : List Line). AreLines x) (sym is) (proper s run journals are).1)
 
--- ---- faults behind the first line
+-- ---- faults after the first line
 
 rest-determined : Laws → (s : ScenarioContent) (text : List ℕ) (n rule m also : ℕ) → Runnable s → FaultOf s text n rule → FaultOf s text m also → (n ≡ m) × (rule ≡ also)
 unfolding fault-in
@@ -100,7 +100,7 @@ unread-one laws text m q few some none (NoFirst t short also nothing) = (refl, r
 unread-one laws text m q few some none (NoScenario line left short is untold) = absurd (no-line-first line left is none)
 unread-one laws text m q few some none (Later s line left n rule short opens f) = absurd (no-line-first line left (opens-line laws line s opens) none)
 
--- the same first line, and the same behind it
+-- the same first line, and the same after it
 same-first : (text : List ℕ) (first line : Line) (behind left : List ℕ) → IsLine first → IsLine line → text ≡ line_text first ++ behind → text ≡ line_text line ++ left
     → (first ≡ line) × (behind ≡ left)
 same-first text first line behind left is also e f = lines-tell.told first line behind left is also (sym e ∙ f)

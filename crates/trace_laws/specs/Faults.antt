@@ -1,5 +1,5 @@
--- Which line of a text that is no trace is the first at fault, and which rule it breaks: the first line with which no run goes on that
--- begins as the lines before it.
+-- Which line of a text that is not a trace is the first at fault, and which rule it breaks: the first line with which
+-- no run continues that begins as the lines before it.
 use Rattle.std.specs.Prelude.{ℕ, ◌+◌, ◌≡◌, ◌≢◌, ◌<◌, ◌⊎◌, ◌==◌, Bool, true, false, if◌then◌else◌, List, [], ◌∷◌, ◌++◌, length}
 use Rattle.sig_types.specs.declared.notes.MasterNote.{MasterNote}
 use Rattle.sig_types.specs.declared.notes.MasterNote.TheVariants as note
@@ -30,7 +30,7 @@ same_head (A cab pass reply) (A other _ _) = cab == other
 same_head (Z rounds) (Z other) = rounds == other
 same_head _ _ = false
 
--- the rule of a line that differs from the one due though it is of its kind and cabinet
+-- the rule of a line that differs from the expected one though it is of its kind and cabinet
 abbrev pub rule_of : Line → ℕ
 rule_of (J cab runs) = 5
 rule_of (F cab tick veh ped mode counter target version) = 6
@@ -39,8 +39,8 @@ rule_of (L cab id outcome) = 8
 rule_of (M note) = 9
 rule_of _ = 4
 
--- the rule of a line that may not follow: another kind, cabinet or number is due whichever way a run goes on, or it differs from a line
--- of its kind and cabinet that may follow
+-- the rule of a line that may not follow: another kind, cabinet or number is expected whichever way a run continues, or
+-- it differs from a line of its kind and cabinet that may follow
 abbrev pub IsRule : ScenarioContent → List Line → Line → ℕ → Type 0
 IsRule s before line rule =
     (((next : Line) → MayFollow s before next → same_head next line ≡ false) × (rule ≡ 4))
@@ -55,8 +55,9 @@ first_piece (b ∷ bytes) = if b == 10 then b ∷ [] else b ∷ first_piece byte
 abbrev pub IsNoLine : List ℕ → Type 0
 IsNoLine bytes = (line : Line) → IsLine line → bytes ≡ line_text line → ⊥
 
--- the bytes that are left behind a front depart from every run at once, by a rule: they end though no run ends here; they go on though
--- a run ends here; they are no line up to their newline; or they begin with a line that may not follow
+-- the bytes that are left after a front depart from every run at once, by a rule: they end though no run ends here;
+-- they continue though a run ends here; they are not a line up to their newline; or they begin with a line that may not
+-- follow
 pub data Departs (s : ScenarioContent) (before : List Line) : List ℕ → ℕ → Type 0 where
   Short : (IsTraceOf s before → ⊥) → Departs s before [] 10
   Behind : (left : List ℕ) → IsTraceOf s before → left ≢ [] → Departs s before left 11
@@ -64,7 +65,7 @@ pub data Departs (s : ScenarioContent) (before : List Line) : List ℕ → ℕ �
   Differs : (line : Line) → (left : List ℕ) → (rule : ℕ) → (IsTraceOf s before → ⊥) → IsLine line → (MayFollow s before line → ⊥)
       → IsRule s before line rule → Departs s before (line_text line ++ left) rule
 
--- the text behind the first line is that of a front, and then departs: the fault stands after so many lines
+-- the text after the first line is that of a prefix, and then departs: the fault follows that many lines
 pub record FaultOf (s : ScenarioContent) (text : List ℕ) (n rule : ℕ) : Type 0 where
   pub before : List Line
   pub left : List ℕ

@@ -1,4 +1,5 @@
--- What traces are worth: what may stand next is determined, journals are told, every front goes on, and a first fault is one.
+-- Laws of traces: the lines determine what may come next and which journals the run had; every prefix can be continued;
+-- and a first fault is one.
 use Rattle.std.specs.Prelude.{ℕ, ◌≡◌, ◌≢◌, ◌⊎◌, List, [], ◌++◌}
 use Rattle.trace_text.specs.declared.lines.Line.{Line}
 use Rattle.trace_text.specs.declared.lines.Line.TheVariants.{J}
@@ -19,24 +20,24 @@ abbrev pub SameButJournals : Line → Line → Type 0
 SameButJournals a b =
     (a ≡ b) ⊎ ((cab : ℕ) × (runs : List (ℕ × ℕ)) × (others : List (ℕ × ℕ)) × (a ≡ J cab runs) × (b ≡ J cab others))
 
--- two lines that may follow a front are the same, but for journals
+-- two lines that may follow a prefix are the same, except for journals
 abbrev pub DueIsDetermined : Type 0
 DueIsDetermined = (s : ScenarioContent) (before : List Line) (a b : Line) → MayFollow s before a → MayFollow s before b → SameButJournals a b
 
--- whatever merges the first rounds have, a run begins with them
+-- for any merges of the first rounds there is a run that begins with them
 abbrev pub RoundsAreFronts : Type 0
 RoundsAreFronts = (s : ScenarioContent) (journals : List (List (List ℕ))) → BeginJournals s journals → IsFrontOf s (front_lines s journals)
 
--- behind a whole run nothing follows
+-- after a whole run nothing follows
 abbrev pub NothingFollows : Type 0
 NothingFollows = (s : ScenarioContent) (lines : List Line) (next : Line) → IsTraceOf s lines → MayFollow s lines next → ⊥
 
--- the text of a trace tells its scenario and its journals
+-- the text of a trace determines its scenario and its journals
 abbrev pub JournalsAreTold : Type 0
 JournalsAreTold = (s t : ScenarioContent) (journals others : List (List (List ℕ))) → IsScenario s.compact s → IsScenario t.compact t
     → AreJournals s journals → AreJournals t others → run_text s journals ≡ run_text t others → (s ≡ t) × (journals ≡ others)
 
--- a text has one first fault at most
+-- a text has at most one first fault
 abbrev pub FaultsAreDetermined : Type 0
 FaultsAreDetermined = (text : List ℕ) (line rule at also : ℕ) → FirstFault text line rule → FirstFault text at also → (line ≡ at) × (rule ≡ also)
 
@@ -44,11 +45,11 @@ FaultsAreDetermined = (text : List ℕ) (line rule at also : ℕ) → FirstFault
 abbrev pub TracesHaveNoFault : Type 0
 TracesHaveNoFault = (text : List ℕ) (line rule : ℕ) → IsCheckable text → IsTrace text → FirstFault text line rule → ⊥
 
--- and each text is a trace or has a first fault: it is not so that both fail
+-- and each text is a trace or has a first fault: never neither
 abbrev pub NothingElse : Type 0
 NothingElse = (text : List ℕ) → (IsTrace text → ⊥) → ((line rule : ℕ) → FirstFault text line rule → ⊥) → ⊥
 
--- what a trace tells: its scenario can be run, and by its lines all is kept
+-- what follows from a trace: its scenario can be run, and every promise holds by its lines
 pub record TellsOfRun (text : List ℕ) : Type 0 where
   pub scenario : ScenarioContent
   pub journals : List (List (List ℕ))
@@ -58,11 +59,11 @@ pub record TellsOfRun (text : List ℕ) : Type 0 where
   pub text_is : text ≡ run_text scenario journals
   pub kept : TellsAllKept scenario journals text
 
--- the lines of a front are lines of a trace
+-- the lines of a prefix are lines of a trace
 abbrev pub FrontsAreProper : Type 0
 FrontsAreProper = (s : ScenarioContent) (before : List Line) → Runnable s → IsFrontOf s before → AreLines before
 
--- what the texts of lines tell: the line, where it ends, and that it is not empty
+-- what the texts of lines determine: the line, where it ends, and that it is not empty
 pub record LinesTell : Type 0 where
   pub told : (a b : Line) (x y : List ℕ) → IsLine a → IsLine b → line_text a ++ x ≡ line_text b ++ y → (a ≡ b) × (x ≡ y)
   pub piece : (a : Line) (x : List ℕ) → IsLine a → first_piece (line_text a ++ x) ≡ line_text a

@@ -1,4 +1,4 @@
--- Messages that are of octets: what stands in them as octets is, and each arc of a name takes at most 32 bits.
+-- Messages that are of octets: what is in them as octets is, and each arc of a name takes at most 32 bits.
 use Rattle.std.specs.Prelude.{ℕ, ◌<◌, ◌≤◌, List, length}
 use Rattle.std.specs.List.{AllByRecursion}
 use Rattle.ber_code.specs.Names.{IsWritable}

@@ -1,5 +1,5 @@
--- All runs of a scenario as one tree: which line is due, or whose journal is asked for, by which it then goes on. A text that is read
--- against it is walked line by line, or leaves it at its first fault.
+-- All runs of a scenario as one tree: it has the next expected line, or the cabinet whose journal comes next and
+-- decides how the tree continues. A text is compared with it line by line, and leaves it at its first fault.
 use Rattle.std.specs.Prelude.{ℕ, zero, suc, ◌+◌, ◌≡◌, ◌≢◌, if◌then◌else◌, List, [], ◌∷◌, ◌++◌, length}
 use Rattle.trace_text.specs.declared.lines.Line.{Line}
 use Rattle.trace_text.specs.declared.lines.Line.TheVariants.{J, Z}
@@ -13,7 +13,7 @@ use Rattle.run_definition.specs.CabinetState.{CabinetState, opened_cabinet_state
 use Rattle.run_definition.specs.Lines.{acts_lines, head_lines, opening_lines}
 use Rattle.trace_laws.specs.Faults.{same_head, rule_of, first_piece, IsNoLine}
 
--- nothing more is due; or a line; or a cabinet's journal, any merge of its streams, by which it goes on
+-- nothing more is expected; or a line; or a cabinet's journal, any merge of its streams, by which it continues
 pub data Script : Type 0 where
   Ends : Script
   Says : (line : Line) → (rest : Script) → Script
@@ -32,12 +32,12 @@ Goes (Says due rest) (line ∷ lines) end = (line ≡ due) × Goes rest lines en
 Goes (Hears cab streams next) (line ∷ lines) end =
     (journal : List ℕ) × (line ≡ J cab (runs_of journal)) × IsMerge streams journal × Goes (next journal) lines end
 
--- a cabinet's round: its journal, the lines of what that brings, and then what follows
+-- a cabinet's round: its journal, the lines of what the journal brings, and then what follows
 abbrev pub cabinet_script : ScenarioContent → ℕ → CabinetState → (List ℕ → Script) → Script
 cabinet_script s cab t next =
     Hears cab (coming_streams s cab t) (λ journal. say (acts_lines cab t.cabinet_history (round_acts s cab t journal)) (next journal))
 
--- the rounds of the cabinets from this number on; those before it have come to what is gone, in order
+-- the rounds of the cabinets from this number on; the cabinets before it have reached these states, in order
 abbrev pub cabinets_script : ScenarioContent → ℕ → List CabinetState → List CabinetState → (List CabinetState → Script) → Script
 cabinets_script s first gone [] rest = rest gone
 cabinets_script s first gone (t ∷ ts) rest =
@@ -52,30 +52,30 @@ abbrev pub rounds_script : ScenarioContent → ℕ → ℕ → List CabinetState
 rounds_script s round zero ts = Says (Z s.rounds) Ends
 rounds_script s round (suc n) ts = round_script s round ts (rounds_script s (round + 1) n)
 
--- the lines behind the first: what each cabinet shows before any tick, the rounds, and the end
+-- the lines after the first: what each cabinet shows before any tick, the rounds, and the end
 abbrev pub script_of : ScenarioContent → Script
 script_of s =
     say (opening_lines 1 (opened_cabinet_states s s.cabinets)) (rounds_script s 1 s.rounds (opened_cabinet_states s s.cabinets))
 
--- the rule of a line where another is due
+-- the rule that a line breaks if another is expected
 abbrev pub rule_for : Line → Line → ℕ
 rule_for due line = if same_head due line then rule_of line else 4
 
--- the script does not go on with the line, and why
+-- the script does not continue with the line, and why
 abbrev pub Refuses : Script → Line → ℕ → Type 0
 Refuses Ends line rule = ⊥
 Refuses (Says due rest) line rule = (line ≢ due) × (rule ≡ rule_for due line)
 Refuses (Hears cab streams next) line rule =
     ((journal : List ℕ) → line ≡ J cab (runs_of journal) → IsMerge streams journal → ⊥) × (rule ≡ rule_for (J cab []) line)
 
--- the script does not go on with the bytes that are left, and why
+-- the script does not continue with the bytes that are left, and why
 pub data Stops (script : Script) : List ℕ → ℕ → Type 0 where
   Lacking : script ≢ Ends → Stops script [] 10
   Beyond : (left : List ℕ) → script ≡ Ends → left ≢ [] → Stops script left 11
   Unread : (left : List ℕ) → script ≢ Ends → left ≢ [] → IsNoLine (first_piece left) → Stops script left 2
   Other : (line : Line) → (left : List ℕ) → (rule : ℕ) → IsLine line → Refuses script line rule → Stops script (line_text line ++ left) rule
 
--- the text leaves the script after so many lines
+-- the text leaves the script after that many lines
 pub record FaultIn (script : Script) (text : List ℕ) (n rule : ℕ) : Type 0 where
   pub before : List Line
   pub left : List ℕ

@@ -23,8 +23,8 @@ pub record IsSeenOf (seen : Seen) (h : History) : Type 0 where
   pub tables : AreByVersion seen.tables.items (tables_of h) (past_at h).version
   pub ticks : seen.ticks + 1 ≡ length (frames_of h)
 
--- the text is a trace, by whose lines all is kept; where it has a cabinet with this number, that is what was seen of all that it came to,
--- and else no tables were seen
+-- the text is a trace, by whose lines every promise holds; if it has a cabinet with this number, this was seen of its
+-- whole history, otherwise no tables were seen
 pub record HasSeen (text : List ℕ) (cab : ℕ) (seen : Seen) : Type 0 where
   pub scenario : ScenarioContent
   pub journals : List (List (List ℕ))

@@ -1,4 +1,4 @@
--- Lines behind the first, as bytes, of the smallest run and of texts that depart from it.
+-- Lines after the first, as bytes, of the smallest run and of texts that depart from it.
 use Rattle.std.specs.Prelude.{ℕ, ◌≡◌, List, [], ◌∷◌, ◌++◌, codes}
 use Rattle.trace_text.specs.declared.lines.Line.{Line}
 use Rattle.safety_laws.specs.TraceText.{lines_text}
@@ -17,6 +17,6 @@ dark = codes "F 1 0 RRRRRRRRRRRRRRRR DDDDDDDDDDDDDDDD S 0 0 0"
 abbrev pub small_lines : List (List ℕ)
 small_lines = dark ∷ codes "R 1" ∷ codes "J 1 4*1" ∷ []
 
--- a run of the scenario writes these bytes behind its first line
+-- a run of the scenario writes these bytes after its first line
 abbrev pub IsBehindFirst : ScenarioContent → List ℕ → Type 0
 IsBehindFirst s text = (lines : List Line) × IsTraceOf s lines × (text ≡ lines_text lines)

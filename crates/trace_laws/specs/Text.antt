@@ -1,4 +1,4 @@
--- What the text of a run tells, whoever reads it and however.
+-- What the text of a run says, in every way of reading it.
 use Rattle.std.specs.Prelude.{ℕ, ◌≡◌, List}
 use Rattle.trace_text.specs.declared.lines.Line.{Line}
 use Rattle.safety_laws.specs.TraceText.{AreLines, lines_text}

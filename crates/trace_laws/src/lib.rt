@@ -1,5 +1,5 @@
-//! Which texts are traces, and which line of another text is the first at fault; the laws of both. A trace is the text of a run,
-//! for whatever journals; all runs of a scenario are one tree (`Script`), on which the laws stand.
+//! Which texts are traces, and which line of another text is the first at fault; the laws of both. A trace is the text
+//! of a run, for any journals; all runs of a scenario are one tree (`Script`), on which the laws are built.
 //!
 //! What may be seen of a cabinet in a trace: its frames, its tables by version and its ticks; that only octets go over
 //! the link, that each line of a run is one that a trace may have, and that a text has one list of lines. It has no
@@ -26,23 +26,23 @@ use scenario_checked::scenarios_run;
 use scenario_read::bytes_have_one_answer;
 pub use seen::Seen;
 
-/// Behind the first lines of a run one line may follow, but for the journal of a cabinet, of which the line's kind and cabinet are
-/// determined.
+/// After the first lines of a run one line may follow, except the journal of a cabinet, of which the line's kind and
+/// cabinet are determined.
 pub fn due_is_determined()
     ensures { DueIsDetermined }
 {}
 
-/// Whatever journals the first rounds have, where they take what came in whatever order, a run begins with them.
+/// Whatever journals the first rounds have, where they take what came in any order, a run begins with them.
 pub fn rounds_are_fronts()
     ensures { RoundsAreFronts }
 {}
 
-/// Behind a whole run nothing follows.
+/// After a whole run nothing follows.
 pub fn nothing_follows()
     ensures { NothingFollows }
 {}
 
-/// The text of a line tells the line, and where it ends.
+/// The text of a line gives the line, and where it ends.
 pub fn lines_tell()
     ensures { LinesTell }
 {}
@@ -54,7 +54,7 @@ pub fn fronts_are_proper()
     lines_are_proper();
 }
 
-/// The text of a trace tells its scenario and its journals: no other scenario and no other journals write the same.
+/// The text of a trace gives its scenario and its journals: no other scenario and no other journals write the same.
 pub fn traces_tell_journals()
     ensures { JournalsAreTold }
 {

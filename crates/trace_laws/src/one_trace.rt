@@ -24,9 +24,9 @@ pub fn texts_have_one_list()
     ensures { (a b : List Line) → AreLines a → AreLines b → lines_text a ≡ lines_text b → a ≡ b }
 {}
 
-/// In whatever order the items of a run come to its cabinets, its text has lines, and no others; and by them the street of each cabinet is
-/// safe at every tick of 0.1 s with the tables of each version, its versions are whole, and coordination is met. So whatever proper lines
-/// have the text of a run, by them all this holds.
+/// For every order in which the items of a run arrive at its cabinets, its text has lines, and no others; and by them
+/// the street of each cabinet is safe at every tick of 0.1 s with the tables of each version, its versions are whole,
+/// and coordination is met. So whatever proper lines have the text of a run, by them all this holds.
 pub fn run_texts_are_safe()
     ensures tells { (s : ScenarioContent) → Runnable s → (journals : List (List (List ℕ))) → AreJournals s journals
         → TellsAllKept s journals (run_text s journals) }

@@ -3,7 +3,7 @@ use Rattle.std.proofs.Common.{◌≡◌, List, [], ◌++◌, Result, Ok, Err, sy
 use Rattle.trace_text.specs.declared.lines.Line.{Line}
 use Rattle.trace_tell.specs.Telling.{TellsLines, TellerLaws}
 
--- what comes of the rest of the lines from here on, comes of all of them from the start
+-- what results from the rest of the lines from here on, comes of all of them from the start
 abbrev pub Onward : {T F : Type 0} → (T → T → List Line → Type 0) → (T → T → F → List Line → Type 0) → T → T → List Line → List Line → Type 0
 Onward {T} {F} told stopped old now all rest =
     (result : Result (Unit {0}) F) (new : T) → TellsLines told stopped result now new rest → TellsLines told stopped result old new all

@@ -1,9 +1,8 @@
-//! The lines of a run in their order, told to whatever takes them.
-//!
-//! A run has the same lines whether its trace is written, compared with a text, answered to a session or counted. So their order is
-//! written here once: each function gives the lines of a part of a run to a `Teller`, one after another, and stops at its first error.
-//! What a teller does with a line is its own matter: a pen writes it, an expecter compares a text with it, an appender adds it to an
-//! answer, a tally counts it.
+//! The lines of a run in their order, given to a `Teller`.  A run has the same lines whether its trace is written,
+//! compared with a text, answered to a session or counted. So their order is written here once: each function gives the
+//! lines of a part of a run to a `Teller`, one after another, and stops at its first error. What a teller does with a
+//! line is its own matter: a pen writes it, an expecter compares a text with it, an appender adds it to an answer, a
+//! tally counts it.
 #![tactic(auto)]
 
 mod lines;

@@ -18,7 +18,7 @@ tail_of (x ∷ xs) = xs
 tails : (x y : ℕ) (xs ys : List ℕ) → x ∷ xs ≡ y ∷ ys → xs ≡ ys
 tails x y xs ys e = ap (λ zs. tail_of zs) e
 
--- the parts before and behind the first such byte are told by the list
+-- the parts before and after the first such byte are determined by the list
 pub one_cut : (c : ℕ) (a b x y : List ℕ) → Lacks c a → Lacks c b → a ++ c ∷ x ≡ b ++ c ∷ y → (a ≡ b) × (x ≡ y)
 one_cut c [] [] x y p q e = (refl, tails _ _ _ _ e)
 one_cut c [] (b ∷ bs) x y p q e = absurd (lacks_head c b bs q (sym (heads _ _ _ _ e)))

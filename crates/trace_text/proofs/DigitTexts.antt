@@ -6,7 +6,7 @@ use Rattle.trace_text.proofs.Reading.{reads_none, reads_some}
 use Rattle.std.proofs.lemmas.Str.Parse.{IsNumeralModel, numerals_by_fold}
 use Rattle.std.proofs.lemmas.Fmt.{digits_decimal, digits_value-decimal, decimal-digits_value, decimal_nonempty, first_decimal, decimal_digit}
 
--- the number that some digits go on to, after n
+-- the number that some digits continue to, after n
 abbrev pub read_on : ℕ → List ℕ → ℕ
 read_on n [] = n
 read_on n (c ∷ cs) = read_on (n * 10 + (c - 48)) cs
@@ -14,7 +14,7 @@ read_on n (c ∷ cs) = read_on (n * 10 + (c - 48)) cs
 pub own : IsNumeralModel (λ ds. all_ascii_digits ds ≡ true) (read_on 0)
 own = numerals_by_fold _ (search rules) read_on (search rules)
 
--- going on makes no number less
+-- continuing makes no number less
 pub read_on-grows : (n : ℕ) (cs : List ℕ) → n ≤ read_on n cs
 read_on-grows n [] = omega arith
 read_on-grows n (c ∷ cs) = let more = read_on-grows (n * 10 + (c - 48)) cs in omega (arith, more)

@@ -1,4 +1,4 @@
--- The first word of a line, which tells its kind.
+-- The first word of a line, which gives its kind.
 use Rattle.std.proofs.Common.{◌≡◌, ℕ, List, [], ◌∷◌, get_or, Ok, Err, refl, ap, ◌∙◌}
 use Rattle.sig_types.specs.declared.notes.MasterNote.TheVariants as note
 use Rattle.trace_text.specs.declared.lines.Line.{Line}
@@ -33,7 +33,7 @@ first_word (L cab id (Err broken)) = refl
 first_word (A cab pass reply) = refl
 first_word (Z rounds) = refl
 
--- so the words tell the kind
+-- so the words give the kind
 pub kind_told : (l : Line) (k : ℕ) (words : List (List ℕ)) → (k ∷ []) ∷ words ≡ line_words l → k ≡ kind l
 kind_told l k words e =
     let same : k ∷ [] ≡ kind l ∷ [] = ap (λ ws. get_or ws 0 []) e ∙ first_word l in

@@ -1,4 +1,4 @@
--- The eight words of a frame behind its letter.
+-- The eight words of a frame after its letter.
 use Rattle.std.proofs.Common.{◌≡◌, ℕ, ◌<◌, ◌^◌, List, [], ◌∷◌, get_or, length, codes, decimal, Option, Some, None, refl, ap, arith, Bor}
 use Rattle.sig_types.specs.declared.frame.Colour.{Colour}
 use Rattle.sig_types.specs.declared.frame.Ped.{Ped}

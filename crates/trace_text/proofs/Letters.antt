@@ -38,7 +38,7 @@ module _ {X : Type 0} (letter : X → ℕ) (d : X) (word : List ℕ) where
       (λ k below. let ne : k ≢ p = omega arith in rw get_or-set_other (same k below))
       (rw get_or-set_same (sym e))
 
--- a letter tells its colour, and its signal
+-- a letter gives its colour, and its signal
 abbrev colour_at : ℕ → Colour
 colour_at n = if n == 71 then colour.Green else (if n == 89 then colour.Yellow else (if n == 67 then colour.Clear else colour.Red))
 

@@ -20,7 +20,7 @@ dash_only word dash (Some octets) is e =
     let long : length word ≡ 2 * length octets.items = ap length e ∙ length-encode_with lower_digits octets.items in
     let one : length word ≡ 1 = ap length dash in absurd (omega arith)
 
--- a dash is no octets' word
+-- a dash is not octets' word
 pub dash_reads : (word : List ℕ) → word ≡ codes "-" → Reads (λ reply. IsReply reply × FitsReply reply) reply_text word (Some None)
 dash_reads word dash = reads_some (tt, tt) dash (dash_only word dash)
 
@@ -47,7 +47,7 @@ module _ (word : List ℕ) where
         (lower ∙ ap encode_lower (sym same))
         (λ other is e. let items : octets.items ≡ other.items = same ∙ same_octets other is e in same_vec octets other items)
 
--- what `unread` gives of an error other than want of memory
+-- what `unread` gives of an error other than lack of memory
 pub unread_reads : (word : List ℕ) (error : FromHexError) (r : Result (Option (ArrayVec ℕ)) AllocError) → ((error ≡ OutOfMemory) ⊎ (decode_of word ≡ Err error))
     → IfOk r (λ found. (found ≡ None) × (error ≢ OutOfMemory)) → IfOk r (Reads IsOctets octets_text word)
 unread_reads word error (Err e) why said = tt

@@ -1,4 +1,4 @@
--- No word of a line holds a space, but a scenario's text; so the spaces tell the words.
+-- No word of a line holds a space, but a scenario's text; so the spaces give the words.
 use Rattle.std.proofs.Common.{◌≡◌, ◌≢◌, ℕ, ℤ, pos, negsuc, ◌<◌, ◌^◌, ◌==◌, ◌&&◌, not, suc, zero, Bool, true, false, List, [], ◌∷◌, ◌++◌, get_or, length, map, codes, decimal, Option, Some, None, Ok, Err, refl, sym, ap, ◌∙◌, arith, lit<, append-nil, ◌/◌, ◌%◌}
 use Rattle.std.proofs.lemmas.Bool.{ne_eqb}
 use Rattle.std.proofs.lemmas.List.Splits.{slice_split_at, slice_split_none, join_with_byte-slice_split}
@@ -211,7 +211,7 @@ nonempty (word ∷ words) k e = omega arith
 some_words : (l : Line) → 0 < length (line_words l)
 some_words l = nonempty (line_words l) (kind l) (first_word l)
 
--- the words of a line are what stands between the spaces of its text
+-- the words of a line are what is between the spaces of its text
 pub line_split : (l : Line) → IsWorded l → slice_split (λ b. b == 32) (unended (line_words l)) ≡ line_words l
 line_split l is = split_words (line_words l) (some_words l) (line_lacks l is)
 

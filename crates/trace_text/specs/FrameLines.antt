@@ -1,4 +1,4 @@
--- The words of a frame's line, by what the line tells.
+-- The words of a frame's line, from what the line says.
 use Rattle.std.specs.Prelude.{ℕ, List, [], ◌∷◌, codes}
 use Rattle.trace_text.specs.declared.lines.Line.TheVariants.{F}
 use Rattle.trace_text.specs.declared.write.FrameLine.{FrameLine}

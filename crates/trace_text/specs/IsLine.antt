@@ -89,7 +89,7 @@ Fits (Z rounds) = rounds < 2 ^ 32
 abbrev pub IsLine : Line → Type 0
 IsLine line = IsProper line × Fits line
 
--- a line whose words are told by its spaces: every line but a scenario's
+-- a line whose words are determined by its spaces: every line but a scenario's
 abbrev pub IsWorded : Line → Type 0
 IsWorded (S json) = ⊥
 IsWorded line = IsLine line

@@ -1,7 +1,7 @@
 -- How words make a line: one space between two of them, one newline at the end.
 use Rattle.std.specs.Prelude.{ℕ, ◌<◌, ◌≢◌, List, [], ◌∷◌, ◌++◌, length, get_or}
 
--- what stands behind a word: each further word after one space, then the newline
+-- what follows a word: each further word after one space, then the newline
 abbrev pub after_word : List (List ℕ) → List ℕ
 after_word [] = 10 ∷ []
 after_word (word ∷ words) = 32 ∷ (word ++ after_word words)
@@ -21,6 +21,6 @@ abbrev pub unended : List (List ℕ) → List ℕ
 unended [] = []
 unended (word ∷ words) = word ++ spaced words
 
--- the byte stands nowhere among these
+-- the byte is nowhere among these
 abbrev pub Lacks : ℕ → List ℕ → Type 0
 Lacks byte bytes = (k : ℕ) → k < length bytes → get_or bytes k 0 ≢ byte

@@ -1,4 +1,4 @@
-//! Reading the lines of each kind from the words behind the kind's letter.
+//! Reading the lines of each kind from the words after the kind's letter.
 
 ghost use Rattle.std.specs.Prelude.{◌≡◌, ◌∷◌, ◌<◌, ◌^◌, ℕ, [], map, codes, decimal, IfOk, length, IsTrue, ◌↔◌};
 ghost use Rattle.trace_text.specs.FrameLines.{words_read};
@@ -14,7 +14,7 @@ use crate::signs::{colours_of, mode_of, signals_of};
 use sig_types::{Broken, Colour, MasterNote, Mode, Ped};
 use std::alloc::{AllocError, Global};
 
-/// The words of a frame's line behind its letter.
+/// The words of a frame's line after its letter.
 #[derive(Clone, Copy)]
 struct FrameWords<'a> {
     cab: &'a [u8],
@@ -46,7 +46,7 @@ pub fn frame(words: &[&[u8]]) -> Option<Line>
     }
 }
 
-/// The frame that these words tell.
+/// The frame that these words describe.
 fn frame_of(words: &FrameWords) -> Option<Line>
     ensures { Reads IsWorded line_words (words_read words.now) result }
 {

@@ -75,7 +75,7 @@ fn run_of(word: &[u8]) -> Option<(u32, u32)>
     }
 }
 
-/// What stands before the first star, and what behind it.
+/// What is before the first star, and what after it.
 fn around_star(word: &[u8]) -> Option<(&[u8], &[u8])>
     ensures { MatchOption result (Lacks 42 word.now) (λ parts. Lacks 42 parts.0.now × (word.now ≡ parts.0.now ++ 42 ∷ parts.1.now)) }
 {
@@ -120,7 +120,7 @@ fn octets_of(alloc: Global, word: &[u8]) -> Result<Option<Octets>, AllocError>
     }
 }
 
-/// Nothing is read of what is no hexadecimal.
+/// Nothing is read of what is not hexadecimal.
 fn unread(error: FromHexError) -> Result<Option<Octets>, AllocError>
     ensures { IfOk result (λ found. (found ≡ None) × (error ≢ FromHexError.OutOfMemory)) }
 {

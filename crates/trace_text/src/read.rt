@@ -45,7 +45,7 @@ fn unended_line(alloc: Global, bytes: &[u8]) -> Result<Option<Line>, AllocError>
     }
 }
 
-/// The scenario's line, with what stands behind its letter and space.
+/// The scenario's line, with what follows its letter and space.
 fn scenario(alloc: Global, json: &[u8]) -> Result<Option<Line>, AllocError>
     ensures { IfOk result (Reads IsLine (λ line. unended (line_words line)) (83 ∷ 32 ∷ json.now)) }
 {

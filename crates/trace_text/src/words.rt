@@ -1,4 +1,4 @@
-//! Writing a line word by word: each word behind one space, into one buffer.
+//! Writing a line word by word: each word after one space, into one buffer.
 
 ghost use Rattle.std.specs.Prelude.{◌≡◌, ◌++◌, ◌∷◌, [], OnOk, map};
 ghost use Rattle.std.specs.Fmt.{signed_decimal, decimal};
@@ -89,7 +89,7 @@ fn stage(out: &mut Vec<u8>, preempt: u8, letter: u8) -> Result<(), AllocError>
     Ok(())
 }
 
-/// The runs, each behind a space.
+/// The runs, each after a space.
 pub fn runs(out: &mut Vec<u8>, runs: &[(u32, u32)]) -> Result<(), AllocError>
     ensures { OnOk result (out.new.items ≡ out.old.items ++ spaced (map run_word runs.now)) }
 {

@@ -34,7 +34,8 @@ fn text_of(alloc: Global, line: &Line) -> Result<Vec<u8>, AllocError>
     Ok(out)
 }
 
-/// What a frame's line tells of a cabinet: the signals, the mode, the counter and its target, the version of the tables.
+/// What a frame's line says about a cabinet: the signals, the mode, the counter and its target, the version of the
+/// tables.
 #[derive(Clone, Copy)]
 struct FrameLine<'a> {
     cab: u32,

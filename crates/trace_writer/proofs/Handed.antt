@@ -82,7 +82,7 @@ module _ {K : Type 0} (written : K → Option (List ℕ)) (faults : K → ℕ) (
     kept = omega (arith, one.kept, last.kept);
   }
 
-  -- where handing over stopped short, a front of it is
+  -- where handing over stopped short, a prefix of it is
   pub writes-front : {e : Stop} (old new : Writer) (from to : K) (text : List ℕ) → held_by old ≡ [] → HandsOver written faults exact (Err e) old new from to text
       → Writes written faults exact (Err e) from to text
   writes-front old new from to text none one = record {
@@ -130,7 +130,7 @@ module _ {K : Type 0} (written : K → Option (List ℕ)) (faults : K → ℕ) (
       → HandsWithin written (Err e) old from to left text
   within-whole old new from to left text one = record { none = tt; up_to = λ some. (held_by new, one.whole) }
 
-  -- behind another text
+  -- after another text
   pub within-then : {u : Unit {0}} (result : Result (Unit {0}) Stop) (old mid : Writer) (from at to : K) (left : ℕ) (p q : List ℕ)
       → HandsOver written faults exact (Ok u) old mid from at p → HandsWithin written result mid at to left q
       → HandsWithin written result old from to left (p ++ q)

@@ -9,7 +9,7 @@ use Rattle.trace_text.specs.Line.{line_text}
 use Rattle.trace_text.proofs.Ends.{some_text}
 use Rattle.trace_writer.specs.Bytes.{AppendsSome, AppendsFront, AppendsUpTo, Puts, PutsFront, PutsUpTo}
 
--- a list with something in front of it or behind it isn't empty
+-- a list with something in front of it or after it isn't empty
 pub some_before : {A : Type 0} (rest more : List A) → rest ≢ [] → rest ++ more ≢ []
 some_before [] more some = absurd (some refl)
 some_before (x ∷ rest) more some = λ none. cc none
@@ -37,7 +37,7 @@ none_yet old piece = ([], refl, sym (appended-nil old))
 pub front_yet : (old : Option (List ℕ)) (piece : List ℕ) → piece ≢ [] → AppendsFront old old piece
 front_yet old piece some = (piece, some, none_yet old piece)
 
--- with all that was held written, a front of the piece was written
+-- with all that was held written, a prefix of the piece was written
 pub held_front : (old mid new : Option (List ℕ)) (held piece : List ℕ) → Appends old mid held → AppendsFront mid new piece → PutsFront old new held piece
 held_front old mid new held piece b (rest, some, (front, e, a)) = (
   rest,
@@ -50,11 +50,11 @@ held_front old mid new held piece b (rest, some, (front, e, a)) = (
   ),
 )
 
--- all of the piece was written behind all that was held
+-- all of the piece was written after all that was held
 pub held_all : (old mid new : Option (List ℕ)) (held piece : List ℕ) → Appends old mid held → Appends mid new piece → Puts old new held [] piece
 held_all old mid new held piece b a = (held ++ piece, sym (append-nil (held ++ piece)), a ∙ ap (λ o. appended o piece) b ∙ appended-appended old held piece)
 
--- a front of the held bytes is a front of these with a piece behind them
+-- a prefix of the held bytes is a prefix of these with a piece after them
 pub front_held : (old new : Option (List ℕ)) (held piece : List ℕ) → AppendsFront old new held → PutsFront old new held piece
 front_held old new held piece (rest, some, (front, e, a)) = (
   rest ++ piece,
@@ -78,7 +78,7 @@ pub front_first : (old new : Option (List ℕ)) (held p q : List ℕ) → PutsFr
 front_first old new held p q (rest, some, (front, e, a)) =
     (rest ++ q, some_before rest q some, (front, sym (append_assoc held p q) ∙ ap (λ x. x ++ q) e ∙ append_assoc front rest q, a))
 
--- into an empty outbox: a front of the text, all of it, and a front of it as what is held is written
+-- into an empty outbox: a prefix of the text, all of it, and a prefix of it as what is held is written
 pub empty_front : (old new : Option (List ℕ)) (held text : List ℕ) → held ≡ [] → PutsFront old new held text → AppendsFront old new text
 empty_front old new held text none front = rw none at front
 
@@ -94,7 +94,7 @@ flush_front old mid new held holds text none (f, e, a) (rest, some, (g, d, b)) =
     let split : text ≡ f ++ holds = rw none at e in
     (rest, some, (f ++ g, split ∙ ap (λ x. f ++ x) d ∙ sym (append_assoc f g rest), b ∙ ap (λ o. appended o g) a ∙ appended-appended old f g))
 
--- what a front of a piece is, is up to its end
+-- what a prefix of a piece is, is up to its end
 pub front_up_to : (old new : Option (List ℕ)) (piece : List ℕ) → AppendsFront old new piece → AppendsUpTo old new piece
 front_up_to old new piece (rest, some, so) = (rest, so)
 

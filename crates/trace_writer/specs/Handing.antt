@@ -1,4 +1,4 @@
--- What it means that bytes were handed over to a writer, whose sink tells what was written and counts its faults.
+-- What it means that bytes were handed over to a writer, whose sink reports what was written and counts its faults.
 use Rattle.std.specs.Prelude.{◌≡◌, ◌≤◌, ◌<◌, ℕ, Bool, List, Option, Result, Err, OnOk, OnErr}
 use Rattle.io_edge.specs.Edge.{Rises, Stays, Appends}
 use Rattle.trace_writer.specs.declared.writer.Stop.{Stop}
@@ -10,9 +10,9 @@ use Rattle.trace_writer.specs.Bytes.{AppendsFront, AppendsUpTo, Puts, PutsFront,
 abbrev pub held_by : Writer → List ℕ
 held_by w = w.held.items
 
--- the text was handed over behind what was held, and of both all is written but what is held now; or it stopped short, and a front of
--- both is written, and not all of it. A write fault comes only where the sink's count of faults rises, which never falls; where the count is
--- exact, it is as it was once all is handed over.
+-- the text was handed over after what was held, and of both all is written but what is held now; or it stopped short,
+-- and a prefix of both is written, and not all of it. A write fault comes only where the sink's count of faults rises,
+-- which never falls; where the count is exact, it is as it was once all is handed over.
 pub record HandsOver {K : Type 0} (written : K → Option (List ℕ)) (faults : K → ℕ) (exact : Bool) (result : Result (Unit {0}) Stop) (old new : Writer)
     (from to : K) (text : List ℕ) : Type 0 where
   pub whole : OnOk result (Puts (written from) (written to) (held_by old) (held_by new) text)
@@ -21,7 +21,7 @@ pub record HandsOver {K : Type 0} (written : K → Option (List ℕ)) (faults : 
   pub counts : OnOk result (Stays exact (faults from) (faults to))
   pub kept : faults from ≤ faults to
 
--- the text was written whole, and an exact count of faults is as it was; or a front of the text, and not all of it
+-- the text was written whole, and an exact count of faults is as it was; or a prefix of the text, and not all of it
 pub record Writes {K : Type 0} (written : K → Option (List ℕ)) (faults : K → ℕ) (exact : Bool) (result : Result (Unit {0}) Stop) (from to : K) (text : List ℕ) : Type 0 where
   pub whole : OnOk result (Appends (written from) (written to) text)
   pub front : OnErr result (AppendsFront (written from) (written to) text)

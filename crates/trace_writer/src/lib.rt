@@ -1,5 +1,5 @@
-//! The writer of a trace: it takes lines and bytes, holds at most 32 KiB of them, and writes these to a sink in pieces. If a write fails or memory
-//! is refused, a front of the bytes is written, and not all of them.
+//! The writer of a trace: it takes lines and bytes, holds at most 32 KiB of them, and writes these to a sink in pieces.
+//! If a write fails or memory is refused, a prefix of the bytes is written, and not all of them.
 #![tactic(auto)]
 
 mod piece;

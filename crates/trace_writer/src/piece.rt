@@ -6,7 +6,7 @@ ghost use Rattle.trace_writer.specs.Bytes.{AppendsFront};
 
 use io_edge::{Failed, Sink};
 
-/// Writes the whole piece; where a write fails, a front of it, and not all of it.
+/// Writes the whole piece; where a write fails, a prefix of it, and not all of it.
 pub fn put_all<K: Sink>(sink: &mut K, piece: &[u8]) -> Result<(), Failed>
     ensures ok { OnOk result (Appends (K.written sink.old) (K.written sink.new) piece.now) }
     ensures err { OnErr result (AppendsFront (K.written sink.old) (K.written sink.new) piece.now) }

@@ -1,4 +1,4 @@
--- A run that is told round by round, and the whole run of which a front was told where it stops short.
+-- A run that is reported round by round, and the whole run of which a front was reported where it stops short.
 use Rattle.std.proofs.Common.{◌≡◌, ◌+◌, ◌∙◌, ◌<◌, ◌⊎◌, inl, inr, ℕ, suc, List, [], ◌∷◌, ◌++◌, length, Result, Ok, Err, refl, sym, ap, subst, arith, append-nil}
 use Rattle.sig_types.specs.declared.notes.MasterNote.{MasterNote}
 use Rattle.trace_text.specs.declared.lines.Line.{Line}
@@ -29,14 +29,14 @@ next-lines s done js j all =
 
 module _ {T F : Type 0} {told : T → T → List Line → Type 0} {stopped : T → T → F → List Line → Type 0} {out_of_memory : F} (laws : TellerLaws told stopped out_of_memory)
     (workers : ℕ) (s : ScenarioContent) where
-  -- so many rounds were run, and their lines were told, behind those of what the cabinets show at first
+  -- that many rounds were run, and their lines were reported, after those of what the cabinets show at first
   pub record Goes (done : ℕ) (c : ClosedLoop) (old now : T) : Type 0 where
     pub journals : List (List (List ℕ))
     pub so : AreSoFar workers s done journals
     pub between : Between s done (come_to s journals) c
     pub handed : told old now (front_lines s journals)
 
-  -- the rounds of a run in some order were told, or telling them stopped short
+  -- the rounds of a run in some order were reported, or telling them stopped short
   abbrev pub TellsFront : Result (Unit {0}) F → T → T → Type 0
   TellsFront result old new = InSomeOrder workers s (λ journals. TellsLines told stopped result old new (front_lines s journals))
       (λ closed left. TellsWithin told stopped result old new left (front_lines s closed))

@@ -15,7 +15,7 @@ use Rattle.whole_run.specs.Orders.{come_to}
 use Rattle.trace_tell.proofs.Texts.{text_append}
 use Rattle.whole_run.specs.PenLaws.{text_some}
 
--- behind the scenario: the rounds with what is shown before them, and the end
+-- after the scenario: the rounds with what is shown before them, and the end
 pub rest_spelled : (s : ScenarioContent) (js : List (List (List ℕ))) → lines_text (rest_lines s js) ≡ lines_text (front_lines s js) ++ line_text (Z s.rounds)
 rest_spelled s js =
     text_append (front_lines s js) (Z s.rounds ∷ [])

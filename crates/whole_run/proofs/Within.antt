@@ -1,4 +1,4 @@
--- A run that was told to a pen is handed over to its writer.
+-- A run that was given to a pen is handed over to its writer.
 use Rattle.std.proofs.Common.{◌≡◌, [], ◌⊎◌, inl, inr, ℕ, Bool, List, Option, Result, Ok, Err}
 use Rattle.trace_text.specs.declared.lines.Line.{Line}
 use Rattle.trace_tell.specs.Telling.{TellsLines, TellsWithin}

@@ -1,8 +1,7 @@
-//! A whole run of a scenario: its rounds, which workers in threads may bring to the cabinets, and its trace, written as it runs:
-//! bytes go out in pieces, and at most 32 KiB of them wait to be written.
-//!
-//! What a run comes to in numbers: the run goes through in the serial order, and its lines are counted as it goes. None is kept, so it
-//! takes no more memory than the run.
+//! A whole run of a scenario: its rounds, which workers in threads may bring to the cabinets, and its trace, written as
+//! it runs: bytes go out in pieces, and at most 32 KiB of them wait to be written.  The totals of a run: the run goes
+//! through in the serial order, and its lines are counted on the way. No line is kept, so this takes no more memory
+//! than the run.
 #![tactic(auto)]
 
 mod counts;

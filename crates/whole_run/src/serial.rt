@@ -18,8 +18,8 @@ use sig_types::{MasterNote, NoMemory};
 use std::alloc::Global;
 use trace_tell::{tell_openings, tell_round};
 
-/// Runs the round after so many in the serial order, and gives what the master notes at its start. If memory is refused, the closed loop is
-/// of no more use.
+/// Runs the round after that many in the serial order, and gives what the master notes at its start. If memory is
+/// refused, the closed loop is of no more use.
 fn run_round(
     alloc: Global,
     closed_loop: &mut ClosedLoop,

@@ -96,7 +96,7 @@ fn put_front<R: Threads + Sync, K: Sink, G: Gate + Sync>(
     pen_front(crew, alloc, &mut pen, closed_loop, s)
 }
 
-/// Hands over what comes behind the line of the scenario.
+/// Hands over what comes after the line of the scenario.
 fn put_rest<R: Threads + Sync, K: Sink, G: Gate + Sync>(
     crew: &Crew<R, G>,
     alloc: Global,

@@ -7,20 +7,22 @@ import pathlib
 import signal
 import subprocess
 from dataclasses import dataclass
-from typing import Any
+from typing import TYPE_CHECKING, Any
 
 from ..shared import files, saying
 from ..shared.commandline import Parser, add_program, add_renamed, number
 from ..shared.fault import Fault
 from ..shared.program import Died, NoProgram, answering, trace_of
 from ..shared.session import Answer
-from ..shared.session_record import SessionRecord
+from ..shared.session_record import MOST_FRAMES, MOST_SCENARIO, SessionRecord
 from ..shared.status import Status
 from ..street import ports
 from ..street.pace import Pace
-from ..street.record import MOST_FRAMES, MOST_SCENARIO
 from ..street.street import Hearer, Street, rounds_for
 from .alone import alone, compact, with_all
+
+if TYPE_CHECKING:
+    from ..plan.names import Names
 
 USUAL = b'{"version":1,"rounds":1,"ticks":10,"cabinets":[{}]}'
 """The default scenario: the standard tables, rounds of a second."""
@@ -118,11 +120,12 @@ def parser() -> argparse.ArgumentParser:
         "--port", type=number(0, 65_535), default=10_161, help="the UDP port; 0 for a free one (default: 10161)"
     )
     words.add_argument(
-        "--scenario", metavar="FILE", help="the scenario to run (default: one standard cabinet, rounds of 1 s)"
-    )
+        "--scenario", metavar="FILE",
+        help="the scenario or timing sheet to run; - is standard input (default: one standard cabinet, rounds of 1 s)",
+    )  # fmt: skip
     words.add_argument(
-        "--cabinet", type=number(1, 64), default=1, metavar="N",
-        help="which cabinet of the scenario answers (default: 1)",
+        "--cabinet", default="1", metavar="NAME",
+        help="which cabinet of the scenario answers, by number or name (default: 1)",
     )
     add_renamed(
         words, "--step", "--ticks-per-message", type=number(0, 864_000), metavar="TICKS",
@@ -136,19 +139,20 @@ def parser() -> argparse.ArgumentParser:
     return words
 
 
-def scenario_of(program: pathlib.Path, name: str | None) -> dict[str, Any]:
-    """Returns the scenario in a file, once the program has taken it."""
-    text = pathlib.Path(name).read_bytes() if name else USUAL
+def scenario_of(program: pathlib.Path, name: str | None) -> tuple[dict[str, Any], "Names"]:
+    """Returns the scenario of a file, once the program has taken it, with its names."""
+    from ..plan import names, streets  # takes a while
+
+    text, known = streets.text_of(name) if name else (USUAL, None)
     trace_of(program, text, out=subprocess.DEVNULL)
-    return json.loads(text)
+    return json.loads(text), known or names.Names()
 
 
-def cabinet_of(words: argparse.Namespace) -> Cabinet | None:
-    """Returns the cabinet that the words ask for; None where the scenario has none of this number."""
+def cabinet_of(words: argparse.Namespace) -> Cabinet:
+    """Returns the cabinet that the words ask for."""
     program = answering(words.program, say)
-    scenario = scenario_of(program, words.scenario)
-    if words.cabinet > len(scenario["cabinets"]):
-        return None
+    scenario, names = scenario_of(program, words.scenario)
+    words.cabinet = names.number(words.cabinet, len(scenario["cabinets"]), "the scenario")
     sets = Sets(scenario) if words.record_scenario else None
     pace = Pace(1.0 if words.ticks_per_message is None else 0.0)
     street = Street(str(program), alone(scenario, words.cabinet), pace, [] if sets is None else [sets])
@@ -175,11 +179,7 @@ def main(arguments: list[str] | None = None) -> int:
     # also where it was started with SIGINT ignored, as a shell does behind `&`
     signal.signal(signal.SIGINT, signal.default_int_handler)
     try:
-        cabinet = cabinet_of(words)
-        if cabinet is None:
-            say(f"the scenario has no cabinet {words.cabinet}")
-            return Status.REFUSED
-        return answered(cabinet)
+        return answered(cabinet_of(words))
     except Fault as fault:
         say(fault)
         return fault.program_status if isinstance(fault, Died) else fault.status

@@ -2,7 +2,7 @@
 
 import itertools
 from collections.abc import Callable, Iterator
-from typing import Any
+from typing import Any, NamedTuple
 
 from ..shared.fault import Fault
 from ..shared.tables import Tables
@@ -94,7 +94,7 @@ def check_phases(street: Map, cabinet: int, tables: Tables) -> None:
     served = {phase for it in signals for movement in it.movements for phase in movement.phases()}
     idle = {phase for it in signals for phase in it.idle}
     called = {it.phase for signal in signals for it in signal.detectors}
-    if strange := sorted((served | idle | called) - set(enabled)):
+    if strange := sorted((served | called) - set(enabled)):
         raise refused(street, place, f"phase {strange[0]} is not enabled in cabinet {cabinet}")
     if bare := sorted(set(enabled) - served - idle):
         words = f"phase {bare[0]} of cabinet {cabinet} has no link (idle = [..] names phases without traffic)"
@@ -120,7 +120,7 @@ def check_overlaps(street: Map, signal: MappedSignal, tables: Tables) -> None:
 
 def may_be_on(one: int, other: int, tables: Tables) -> bool:
     """Tells whether two phases may be on at once."""
-    return one == other or other in tables.phase(one, 23)
+    return one == other or other in tables.phase(one, 23) or one in tables.phase(other, 23)
 
 
 def movement_of(signal: MappedSignal, link: Link) -> MappedMovement:
@@ -128,35 +128,71 @@ def movement_of(signal: MappedSignal, link: Link) -> MappedMovement:
     return next(it for it in signal.movements if link.name in it.links)
 
 
-def clashes(signal: MappedSignal, network: Network, tables: Tables) -> Iterator[tuple[Link, Link, int, int]]:
+class Side(NamedTuple):
+    """A link of a pair whose paths cross, its movement, and a phase under which it has way."""
+
+    link: Link
+    movement: MappedMovement
+    phase: int
+
+
+def lets_go(network: Network, one: Side, other: Side) -> bool:
+    """Tells whether a link under a phase gives way to another: SUMO lets it, and the map says so by name, or it turns
+    under its permissive phase and meets who comes from opposite, or pedestrians."""
+    if not network.gives_way(one.link, other.link):
+        return False
+    if one.movement.yields_to(other.movement.name):
+        return True
+    return one.phase == one.movement.permissive and network.meets(one.link, other.link)
+
+
+def pairs(signal: MappedSignal, tables: Tables, a: Link, b: Link) -> Iterator[tuple[Side, Side]]:
+    """Yields two links under each two phases of theirs that may be on at once."""
+    one, other = movement_of(signal, a), movement_of(signal, b)
+    for p, q in itertools.product(one.phases(), other.phases()):
+        if may_be_on(p, q, tables):
+            yield Side(a, one, p), Side(b, other, q)
+
+
+def clashes(signal: MappedSignal, network: Network, tables: Tables) -> Iterator[tuple[Side, Side]]:
     """Yields pairs of links whose paths cross, with phases that may be on at once, under which neither gives way."""
     for a, b in network.conflicts(signal.id):
-        one, other = movement_of(signal, a), movement_of(signal, b)
-        for (p, one_yields), (q, other_yields) in itertools.product(one.ways(), other.ways()):
-            is_sound = one_yields and network.gives_way(a, b) or other_yields and network.gives_way(b, a)
-            if not is_sound and may_be_on(p, q, tables):
-                yield a, b, p, q
+        for one, other in pairs(signal, tables, a, b):
+            if not (lets_go(network, one, other) or lets_go(network, other, one)):
+                yield one, other
 
 
-def yielding_in(street: Map, scenario: dict[str, Any]) -> Callable[[Link, Link], bool]:
-    """Returns what tells whether a link has a phase under which it yields, and which may be on along with one of
-    another link."""
+def yielding_in(street: Map, network: Network, scenario: dict[str, Any]) -> Callable[[Link, Link], bool]:
+    """Returns what tells whether a link has a phase under which it yields to another link that may be on then."""
     tables = tables_of(scenario)
     signals = {it.id: it for it in street.signals}
 
     def may_yield(a: Link, b: Link) -> bool:
         signal = signals[a.signal]
         own = tables[signal.cabinet - 1]
-        pairs = itertools.product(movement_of(signal, a).ways(), movement_of(signal, b).phases())
-        return any(yields and may_be_on(p, q, own) for (p, yields), q in pairs)
+        return any(lets_go(network, one, other) for one, other in pairs(signal, own, a, b))
 
     return may_yield
 
 
 def check_conflicts(street: Map, signal: MappedSignal, network: Network, tables: Tables) -> None:
-    """No two links whose paths cross have one phase, or two that may be on at once, unless one of them yields."""
-    for a, b, p, q in clashes(signal, network, tables):
-        one, other = movement_of(signal, a).name, movement_of(signal, b).name
-        on = f"both have phase {p}" if p == q else f"phases {p} and {q} may be on at once"
-        words = f"{one} ({a.name}) and {other} ({b.name}) cross, and {on} (yields = true lets one give way)"
-        raise refused(street, f"signal {signal.id}", words)
+    """No two links whose paths cross have one phase, or two that may be on at once, unless one of them yields. Of
+    several such pairs one with the same phase is named."""
+    found = min(clashes(signal, network, tables), key=lambda it: it[0].phase != it[1].phase, default=None)
+    if found is None:
+        return
+    one, other = found
+    p, q = one.phase, other.phase
+    on = f"both have phase {p}" if p == q else f"phases {p} and {q} may be on at once"
+    names = [f"{it.movement.name} ({it.link.name})" for it in (one, other)]
+    turn, first = who_yields(network, one, other)
+    how = f'a wrong phase? yields = ["{first}"] of {turn} lets it give way' if turn else "SUMO lets neither give way"
+    raise refused(street, f"signal {signal.id}", f"{names[0]} and {names[1]} cross, and {on} ({how})")
+
+
+def who_yields(network: Network, one: Side, other: Side) -> tuple[str, str]:
+    """Returns the name of the movement that SUMO lets give way, and to which; none where SUMO lets neither."""
+    for a, b in ((one, other), (other, one)):
+        if network.gives_way(a.link, b.link) and not a.movement.walk:
+            return a.movement.name, b.movement.name
+    return "", ""

@@ -12,6 +12,7 @@ WORDS = {
     "map": ("map_command", "write which link of a network has which phase"),
     "compare": ("compare_command", "several plans over the same seeds, side by side"),
     "queues": ("queues.command", "traffic by volumes and queues, without SUMO"),
+    "table": ("table_command", "trips, passages and queues of a run as CSV or Parquet"),
     "draw": ("pictures.command", "pictures of a run: arrivals, paths over bands, splits, queues"),
 }
 """The commands: the module of each, which has `parser()` and `main(words) -> int`, and what it does in half a line."""

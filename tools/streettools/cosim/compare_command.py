@@ -3,24 +3,30 @@
 import argparse
 import json
 import pathlib
+import tempfile
+from types import ModuleType
 from typing import Any
 
 from ..shared.commandline import Parser, add_json, add_output, add_program, number
+from ..shared.fault import Fault
+from ..shared.given import Given, read_toml
 from ..shared.progress import bar
-from ..shared.saying import say
+from ..shared.saying import say, say_replaced
 from ..shared.status import Status
-from .comparing import Comparison, Row, do_all, jobs_of, read_comparison, rows_of
-from .totals import Mean
+from . import comparing, comparing_queues, verdicts
+from .comparison import Result, Row, Terms, do_all, rows_of
+from .totals import ALL, Mean
 
 EXAMPLES = """\
 examples:
-  ./arterial cosim compare scenarios/sumo/street/offsets.toml -o out/
+  ./arterial cosim compare scenarios/offsets.compare.toml                 # by volumes and queues, without SUMO
+  ./arterial cosim compare scenarios/sumo/street/offsets.toml -o out/     # under SUMO
   ./arterial cosim compare scenarios/sumo/street/bus.toml -o out/ --workers 4 --keep
 
-All plans run over the same seeds, so that they meet the same vehicles. A difference is taken seed by seed; its
-interval of 95 % is Student's over the seeds. The folder gets comparison.txt and comparison.json. docs/COSIM.md
-explains the file."""
-HEADS = ("plan", "trips", "delay", "stops", "more delay", "more stops")
+All plans run with the same seeds, so they have the same vehicles. Differences are computed for each seed; the interval
+of 95 % is Student's over the seeds. If it contains 0, the report says "no real difference". The folder gets
+comparison.txt and comparison.json. docs/QUEUES.md and docs/COSIM.md explain the file."""
+HEADS = ("plan", "trips", "delay", "stops", "more delay", "more stops", "delay differs")
 
 
 def parser() -> argparse.ArgumentParser:
@@ -31,7 +37,7 @@ def parser() -> argparse.ArgumentParser:
         epilog=EXAMPLES,
     )
     words.add_argument("comparison", type=pathlib.Path, help="the file that names the plans, in TOML")
-    add_output(words, "the folder for all results", type=pathlib.Path, required=True, metavar="FOLDER")
+    add_output(words, "the folder for all results (needed under SUMO)", type=pathlib.Path, metavar="FOLDER")
     words.add_argument(
         "--workers", type=number(1, 64), default=1, metavar="N", help="number of parallel runs (default: 1)"
     )
@@ -46,38 +52,45 @@ def shown(mean: Mean | None) -> str:
     return "-" if mean is None else str(mean)
 
 
-def text_of(comparison: Comparison, rows: list[Row]) -> str:
-    """Returns the table as text, group by group."""
+def table(rows: list[tuple[str, ...]]) -> list[str]:
+    """Returns the lines of a table whose first and last columns are texts."""
+    widths = [max(len(row[k]) for row in rows) for k in range(len(rows[0]))]
+    lines = []
+    for first, *numbers, last in rows:
+        placed = [it.rjust(width) for it, width in zip(numbers, widths[1:])]
+        lines.append("  ".join(["", first.ljust(widths[0]), *placed, last]).rstrip())
+    return lines
+
+
+def text_of(terms: Terms, rows: list[Row]) -> str:
+    """Returns the table as text, group by group, and what it says of all vehicles."""
     lines = [
-        f"{len(comparison.seeds)} seeds, {comparison.seconds:g} s each, steps of {comparison.step:g} s;"
+        f"{len(terms.seeds)} seeds, {terms.seconds:g} s each, steps of {terms.step:g} s;"
         " delay in seconds, with the wait to get in;",
-        f"means with intervals of 95 %; more: than under {comparison.against}, paired by seed",
+        f"means with intervals of 95 %; more: than under {terms.against}, paired by seed",
     ]
     for group in dict.fromkeys(it.group for it in rows):
-        cells = [HEADS]
+        cells: list[tuple[str, ...]] = [HEADS]
         for it in (row for row in rows if row.group == group):
             means = (it.delay, it.stops, it.more_delay, it.more_stops)
-            cells.append((it.plan, f"{it.trips:.0f}", *map(shown, means)))
-        widths = [max(len(row[k]) for row in cells) for k in range(len(HEADS))]
-        lines += ["", group]
-        for row in cells:
-            numbers = (it.rjust(width) for it, width in zip(row[1:], widths[1:]))
-            lines.append("  " + "  ".join([row[0].ljust(widths[0]), *numbers]))
-    return "\n".join(lines) + "\n"
+            cells.append((it.plan, f"{it.trips:.0f}", *map(shown, means), verdicts.word(it.more_delay)))
+        lines += ["", group, *table(cells)]
+    said = list(verdicts.sentences(terms, [it for it in rows if it.group == ALL]))
+    return "\n".join([*lines, "", *said]) + "\n"
 
 
-def document_of(comparison: Comparison, rows: list[Row]) -> dict[str, Any]:
+def document_of(terms: Terms, rows: list[Row]) -> dict[str, Any]:
     """Returns the table as JSON has it."""
 
     def pair(mean: Mean | None) -> list | None:
         return None if mean is None else list(mean)
 
     return {
-        "seeds": list(comparison.seeds),
-        "seconds": comparison.seconds,
-        "step": comparison.step,
-        "warm": comparison.warm,
-        "against": comparison.against,
+        "seeds": list(terms.seeds),
+        "seconds": terms.seconds,
+        "step": terms.step,
+        "warm": terms.warm,
+        "against": terms.against,
         "rows": [
             {
                 "plan": it.plan,
@@ -87,39 +100,78 @@ def document_of(comparison: Comparison, rows: list[Row]) -> dict[str, Any]:
                 "stops": pair(it.stops),
                 "more_delay": pair(it.more_delay),
                 "more_stops": pair(it.more_stops),
+                "delay_differs": verdicts.verdict(it.more_delay),
+                "stops_differ": verdicts.verdict(it.more_stops),
             }
             for it in rows
         ],
     }
 
 
-def main(given: list[str]) -> int:
-    """Runs a comparison, and returns the exit status."""
-    words = parser().parse_args(given)
-    comparison = read_comparison(words.comparison)
-    jobs = jobs_of(comparison, words.program, words.output, words.keep)
-    words.output.mkdir(parents=True, exist_ok=True)
+def kind_of(given: Given) -> ModuleType:
+    """Returns what does a comparison: by queues where its file names volumes, under SUMO where it names SUMO's."""
+    if "volumes" in given.table and not {"sumo", "map"} & set(given.table):
+        return comparing_queues
+    if not {"volumes", "sumo", "map"} & set(given.table):
+        raise given.refuse("volumes", "is missing, or sumo and map: who drives?")
+    return comparing
+
+
+def with_walks(comparison: comparing.Comparison) -> comparing.Comparison:
+    """Returns the plans that can be compared where persons walk; says which are left out, and which step is short
+    enough for measures."""
+    found, left = comparing.without_walks(comparison)
+    for plan in left:
+        say("cosim", f"plan {plan} is left out: SUMO's controllers have no walk times, and persons walk here")
+    if found.terms.step >= 1:
+        say("cosim", "steps of 1 s lower SUMO's saturation flow: they are for looking; measure delay with step = 0.1")
+    return found
+
+
+def ran(kind: ModuleType, jobs: list[Any], workers: int) -> list[Result]:
+    """Does all runs."""
     progress = bar(len(jobs), "run")
     try:
-        results = do_all(jobs, words.workers, progress.update if progress is not None else lambda count: None)
+        advance = progress.update if progress is not None else lambda count: None
+        return do_all(jobs, kind.do, kind.pool_of(workers), advance)
     finally:
         if progress is not None:
             progress.close()
-    rows = rows_of(comparison, jobs, results)
-    text = text_of(comparison, rows)
-    (words.output / "comparison.txt").write_text(text, encoding="utf-8")
-    document = json.dumps(document_of(comparison, rows), indent=1)
-    (words.output / "comparison.json").write_text(document + "\n", encoding="utf-8")
-    print(document if words.json else text, end="\n" if words.json else "")
-    tell(comparison, jobs, results)
+
+
+def main(given: list[str]) -> int:
+    """Runs a comparison, and returns the exit status."""
+    words = parser().parse_args(given)
+    if words.keep and words.output is None:
+        raise Fault("--keep needs -o FOLDER")
+    read = read_toml(words.comparison)
+    kind = kind_of(read)
+    comparison = kind.of(read, words.comparison.parent)
+    if kind is comparing:
+        comparison = with_walks(comparison)
+    jobs = kind.jobs_of(comparison, words.program, words.output or pathlib.Path(tempfile.gettempdir()), words.keep)
+    if words.output is None and kind is comparing:
+        raise Fault("a comparison under SUMO needs -o FOLDER, in which SUMO writes")
+    results = ran(kind, jobs, words.workers)
+    rows = rows_of(comparison.terms, comparison.plans, jobs, results)
+    text = text_of(comparison.terms, rows)
+    document = json.dumps(document_of(comparison.terms, rows), indent=1) + "\n"
+    if words.output is not None:
+        say_replaced("cosim", words.output / "comparison.json")
+        words.output.mkdir(parents=True, exist_ok=True)
+        (words.output / "comparison.txt").write_text(text, encoding="utf-8")
+        (words.output / "comparison.json").write_text(document, encoding="utf-8")
+    print(document if words.json else text, end="")
+    if kind is comparing:
+        tell(comparison.terms, jobs, results)
     return Status.DONE
 
 
-def tell(comparison: Comparison, jobs: list, results: list) -> None:
+def tell(terms: Terms, jobs: list[comparing.Job], results: list[Result]) -> None:
     """Says how fast the runs under cabinets were."""
     own = [it.times for job, it in zip(jobs, results) if job.program is not None and it.times.whole]
     if own:
         whole, steps = sum(it.whole for it in own), sum(it.steps for it in own)
         share = sum(it.cabinets for it in own) / whole
-        fast = f"{steps * comparison.step / whole:.0f} simulated seconds in one"
+        fast = f"{steps * terms.step / whole:.0f} simulated seconds in one"
         say("cosim", f"{fast}, {share:.0%} of the time for the cabinets")

@@ -1,6 +1,6 @@
-"""Which phase a link has by the approaches' compass and turns, after NEMA: phase 2 drives along the main street, 6
-against it, 4 and 8 on the side street, 5, 1, 7 and 3 are the left turns of 2, 6, 4 and 8; right turns go with the
-straight ones.
+"""Which phase a link has by the approaches' compass and turns, as the Highway Capacity Manual numbers them: phase 2
+drives along the main street, and 4, 6 and 8 follow by quarter turns to the right. If 2 is eastbound, 4 is southbound, 6
+westbound, 8 northbound, and 5, 7, 1 and 3 are their left turns. Right turns go with the straight ones.
 
 An approach that has none opposite takes its left turns along with its own phase, as the stem of a T does. A left turn
 that shares its lane with another movement goes with the phase of that lane, and yields. Where it is asked for, a left
@@ -8,13 +8,14 @@ turn with a phase of its own is permissive under the phase of those who come fro
 """
 
 from collections import defaultdict
+from collections.abc import Container
 from dataclasses import dataclass
 
 from .network import CROSSING, LEFT, RIGHT, TURN, Link, Network
 
 WAYS = "NESW"
 BETWEEN = 90
-STRAIGHT_PHASES, LEFT_PHASES = (2, 8, 6, 4), (5, 3, 1, 7)
+STRAIGHT_PHASES, LEFT_PHASES = (2, 4, 6, 8), (5, 7, 1, 3)
 """Phases of the ways by quarter turns to the right from the way of phase 2."""
 LETTER = {LEFT: "L", RIGHT: "R", TURN: "U"}
 
@@ -22,13 +23,16 @@ LETTER = {LEFT: "L", RIGHT: "R", TURN: "U"}
 @dataclass
 class LinkPhase:
     """What could be told of a link: its movement's name, and its phase, None where it is to be asked for, with why; and
-    under which phase it is permissive."""
+    under which phase it is permissive. `is_said` tells that the user gave the phase, `is_weak` that the network's own
+    program has it give way in its phase."""
 
     link: Link
     name: str
     phase: int | None
     why: str = ""
     permissive: int | None = None
+    is_said: bool = False
+    is_weak: bool = False
 
 
 def way_of(heading: float) -> int:
@@ -50,7 +54,15 @@ def main_way(network: Network, approaches: list[str]) -> int:
 class Compass:
     """A signal's approaches by their compass."""
 
-    def __init__(self, network: Network, signal: str, main: int | None, is_permissive: bool = False) -> None:
+    def __init__(
+        self,
+        network: Network,
+        signal: str,
+        main: int | None,
+        is_permissive: bool = False,
+        enabled: Container[int] = range(1, 9),
+    ) -> None:
+        self.enabled = enabled
         self.network, self.links, self.is_permissive = network, network.links[signal], is_permissive
         self.approaches = sorted({it.approach for it in self.links if it.turn != CROSSING})
         self.main = main_way(network, self.approaches) if main is None else main
@@ -61,9 +73,15 @@ class Compass:
         for it in self.links:
             self.turns[it.start].add(it.turn)
 
-    def straight(self, way: int) -> int:
-        """Returns the phase that drives a way."""
-        return STRAIGHT_PHASES[(way - self.main) % 4]
+    def straight(self, way: int) -> int | None:
+        """Returns the phase that drives a way: where its own isn't enabled, that of the opposite way."""
+        own = (STRAIGHT_PHASES[(way - self.main + turned) % 4] for turned in (0, 2))
+        return next((it for it in own if it in self.enabled), None)
+
+    def on_phase(self, link: Link, name: str, way: int) -> LinkPhase:
+        """Returns what is found of a link that goes with the phase of a way."""
+        phase = self.straight(way)
+        return LinkPhase(link, name, phase, "" if phase else f"the cabinet has no phase that drives {WAYS[way]}")
 
     def told(self) -> list[LinkPhase]:
         """Returns what can be told of each link."""
@@ -79,10 +97,11 @@ class Compass:
             return LinkPhase(link, name, None, f"{' and '.join(own)} both drive {WAYS[way]}")
         is_left = link.turn in (LEFT, TURN)
         has_opposite = bool(self.ways.get((way + 2) % 4))
-        if is_left and has_opposite and self.turns[link.start] <= {LEFT, TURN}:
+        own_phase = LEFT_PHASES[(way - self.main) % 4]
+        if is_left and has_opposite and self.turns[link.start] <= {LEFT, TURN} and own_phase in self.enabled:
             permissive = self.straight((way + 2) % 4) if self.is_permissive else None
-            return LinkPhase(link, name, LEFT_PHASES[(way - self.main) % 4], permissive=permissive)
-        return LinkPhase(link, name, self.straight(way))
+            return LinkPhase(link, name, own_phase, permissive=permissive)
+        return self.on_phase(link, name, way)
 
     def crossing(self, link: Link) -> LinkPhase:
         """Tells of a crossing: it is walked along with the traffic that has it on its right."""
@@ -100,7 +119,7 @@ class Compass:
         if not self.ways.get(way):
             why = f"no traffic drives parallel to the crossing on the {WAYS[arm]} side"
             return LinkPhase(link, f"ped {WAYS[arm]}", None, why)
-        return LinkPhase(link, f"ped {WAYS[arm]}", self.straight(way))
+        return self.on_phase(link, f"ped {WAYS[arm]}", way)
 
 
 def by_nema(network: Network, signal: str) -> list[LinkPhase]:
@@ -116,6 +135,7 @@ def by_nema(network: Network, signal: str) -> list[LinkPhase]:
             (told.phase,), (told.permissive,), told.why = first, second, ""
         else:
             told.phase = own[0] if len(own) == 1 else None
+            told.is_weak = bool(second)
             told.why = "" if told.phase else f"NEMA phases {own} give it way" if own else "no NEMA phase gives it way"
         found.append(told)
     return found

@@ -3,7 +3,9 @@ TraCI, which takes several times as long.
 """
 
 import contextlib
+import gzip
 import importlib
+import math
 import os
 import pathlib
 import sys
@@ -14,9 +16,11 @@ from typing import Any
 
 from ..shared.fault import Fault
 from ..shared.status import Status
+from .xml_file import root_of
 
 TOOLS = "/usr/share/sumo/tools"
 TRIPS, ROUTES, STOPS, LOG = "tripinfo.xml", "vehroutes.xml", "stops.xml", "sumo.log"
+PERSONS = ("person", "personFlow")
 PACKAGES = "apt-get install -y sumo sumo-tools"
 
 
@@ -45,34 +49,52 @@ def call(sumo: Any, kind: str, name: str) -> Callable[..., Any]:
 @dataclass(frozen=True)
 class Config:
     """A configuration of SUMO, as far as it is known here: its network, additional files, first and last second (None
-    where it names none)."""
+    where it names none), files of routes."""
 
     path: pathlib.Path
     network: pathlib.Path
     additional: tuple[pathlib.Path, ...]
     begin: float
     end: float | None
+    routes: tuple[pathlib.Path, ...] = ()
+
+    def has_persons(self) -> bool:
+        """Tells whether persons walk: whether a file of routes or an additional one has some."""
+        return any(has_persons(it) for it in (*self.routes, *self.additional))
+
+
+def has_persons(path: pathlib.Path) -> bool:
+    """Tells whether a file has persons; one that can't be read is for SUMO to refuse."""
+    with contextlib.suppress(OSError, xml.ParseError):
+        with gzip.open(path) if path.suffix == ".gz" else open(path, "rb") as text:
+            for _, element in xml.iterparse(text, ("start",)):
+                if element.tag in PERSONS:
+                    return True
+                element.clear()
+    return False
+
+
+def files_of(text: str, folder: pathlib.Path) -> tuple[pathlib.Path, ...]:
+    """Returns the files of a list with commas."""
+    return tuple(folder / it.strip() for it in text.split(",") if it.strip())
 
 
 def read_config(path: pathlib.Path) -> Config:
     """Reads a configuration."""
-    try:
-        root = xml.parse(path).getroot()
-    except OSError as fault:
-        raise Fault(f"{path}: {fault.strerror or fault}", Status.FILE) from None
-    except xml.ParseError as fault:
-        raise Fault(f"{path}: no XML: {fault}") from None
-    values = {it.tag: it.get("value") for it in root.iter() if it.get("value") is not None}
+    root = root_of(path)
+    values = {it.tag: it.attrib["value"] for it in root.iter() if "value" in it.attrib}
     network = values.get("net-file") or values.get("net") or values.get("n")
     if not network:
         raise Fault(f"{path}: no configuration of SUMO: net-file is missing")
     files = values.get("additional-files") or values.get("additional") or values.get("a") or ""
-    additional = tuple(path.parent / it.strip() for it in files.split(",") if it.strip())
-    try:
+    additional = files_of(files, path.parent)
+    routes = files_of(values.get("route-files") or values.get("route") or values.get("r") or "", path.parent)
+    begin, end = math.nan, math.nan
+    with contextlib.suppress(ValueError):
         begin, end = float(values.get("begin", 0)), float(values.get("end", -1))
-    except ValueError:
-        raise Fault(f"{path}: begin and end have to be seconds") from None
-    return Config(path, path.parent / network, additional, begin, end if end > 0 else None)
+    if not math.isfinite(begin + end):
+        raise Fault(f"{path}: begin and end have to be seconds")
+    return Config(path, path.parent / network, additional, begin, end if end > 0 else None, routes)
 
 
 @dataclass(frozen=True)
@@ -95,6 +117,7 @@ class Start:
         words += ["--additional-files", additional] if additional else []
         words += ["--seed", self.seed] if self.seed is not None else []
         words += ["--tripinfo-output", self.out / TRIPS, "--tripinfo-output.write-unfinished"]
+        words += ["--tripinfo-output.write-undeparted"]
         words += ["--vehroute-output", self.out / ROUTES, "--vehroute-output.exit-times"]
         words += ["--vehroute-output.write-unfinished", "--stop-output", self.out / STOPS]
         words += ["--no-step-log", "--no-warnings", "--duration-log.disable", "--xml-validation", "never"]

@@ -16,6 +16,7 @@ class Halt(NamedTuple):
     second: float
     edge: str
     vehicles: list[str]
+    lane: str = ""
 
 
 def approaches(network: Network, signals: Iterable[str]) -> dict[str, list[str]]:
@@ -73,7 +74,7 @@ class Halts:
                 own = standing[lane] = self.who(lane, count)
                 if [it for it in own if it not in without_stop]:
                     own = [it for it in own if not self.is_at_stop(it)]
-                found.append(Halt(second, edge, own))
+                found.append(Halt(second, edge, own, lane))
         for lane in self.further:
             if count := self.halting(lane):
                 standing[lane] = self.who(lane, count)

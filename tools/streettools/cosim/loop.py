@@ -8,20 +8,23 @@ import math
 import pathlib
 import time
 from collections.abc import Callable, Iterator
-from dataclasses import dataclass
+from dataclasses import dataclass, field
 from typing import Any
 
 from ..shared.fault import Fault
 from ..shared.session import LISTS
+from ..shared.session_record import Room
 from ..shared.status import Status
-from ..street.record import Room
 from .checks import yielding_in
 from .detectors import Areas, Detectors
+from .discharge import Crossings
 from .drive import Config, call
 from .halts import Halts
 from .mapping import Map
 from .network import Network
 from .persons import Buttons
+from .policies import Policy
+from .policies import Street as PolicyStreet
 from .preempts import Preempts
 from .priority import Priority
 from .session import Session
@@ -35,7 +38,7 @@ MOST_ROUNDS = 86_400
 @dataclass(frozen=True)
 class Given:
     """What a run is of: SUMO's configuration, map, network, scenario; step and length in seconds; the seed; whether
-    buses ask for priority; from which second on trips count."""
+    buses ask for priority; from which second on trips count; the policy that drives the cabinets, if there is one."""
 
     config: Config
     street: Map
@@ -46,6 +49,9 @@ class Given:
     seed: int | None = None
     priority: bool = True
     warm: float = 0.0
+    names: dict[int, str] = field(default_factory=dict)
+    """What cabinets are called, as far as they have names."""
+    policy: pathlib.Path | None = None
 
     def ticks(self) -> int:
         """Returns the ticks of a step."""
@@ -101,12 +107,19 @@ class Loop:
         names = [it.id for it in street.signals]
         self.signals = Signals(street, network)
         self.halts = Halts(network, names, sumo, (it.lane for it in areas.places.values()))
-        self.watch = Watch(network, names, yielding_in(street, given.scenario), sumo)
+        self.crossings = Crossings(network, names, sumo)
+        self.watch = Watch(network, names, yielding_in(street, network, given.scenario), sumo)
         self.detectors = Detectors(street, areas, sumo, given.step)
         self.buttons = Buttons(street, network, sumo)
         self.priority = Priority(street, network, given.scenario.get("community", "public"))
         self.preempts = Preempts(street, network)
         self.watched = Watched(self.preempts.names() | (self.priority.names() if given.priority else set()), sumo)
+        self.policy: Policy | None = None
+        if given.policy is not None:
+            its = Standing(street, self.halts)
+            community = given.scenario.get("community", "public")
+            self.policy = Policy(given.policy, PolicyStreet(len(given.scenario["cabinets"]), its.waiting, community))
+            self.policy.heard(session.opened)
         self.room = Room(given.scenario)
         self.times = Times()
         self.second = 0.0
@@ -137,11 +150,15 @@ class Loop:
         stepped = self.clock()
         self.second = round((step + 1) * self.given.step, 1)
         requests = self.requests(is_whole)
+        if self.policy is not None:
+            requests += self.policy.requests(self.second, requests)
         asked = self.clock()
         lines = self.session.tick(self.ticks, requests)
         came = self.clock()
         if lines:
             self.priority.heard(lines)
+            if self.policy is not None:
+                self.policy.heard(lines)
         if lines or self.signals.always:
             self.signals.show(self.sumo, lines, (step + 1) * self.ticks)
         self.watch.look(self.second)
@@ -153,6 +170,7 @@ class Loop:
         """Returns what the cabinets are told before the ticks; slow things are looked at once a second."""
         if is_whole:
             self.halts.look(self.second)
+            self.crossings.look()
             self.detectors.look_for_strays(self.halts.standing)
         requests = self.detectors.changes()
         if self.watched.names:
@@ -167,6 +185,22 @@ class Loop:
             if self.room.is_used(self.session.record):
                 raise Fault(f"second {self.second:.0f}: the record is full: a trace holds no more", Status.FULL)
         return requests
+
+
+class Standing:
+    """How many vehicles stand on the lanes of each movement, by the last look at halts."""
+
+    def __init__(self, street: Map, halts: Halts) -> None:
+        self.halts = halts
+        self.lanes = {
+            (signal.cabinet, it.name): {link.split(" ")[0] for link in it.links}
+            for signal in street.signals
+            for it in signal.movements
+        }
+
+    def waiting(self, cabinet: int, movement: str) -> int:
+        """Returns how many vehicles stand on the lanes of a movement."""
+        return sum(len(self.halts.standing.get(lane, ())) for lane in self.lanes[cabinet, movement])
 
 
 @contextlib.contextmanager
@@ -186,6 +220,12 @@ def types_of(sumo: Any) -> dict[str, tuple[str, float]]:
     """Returns the class and the greatest speed of each type of vehicles."""
     types = sumo.vehicletype
     return {it: (types.getVehicleClass(it), types.getMaxSpeed(it)) for it in types.getIDList()}
+
+
+def pending_in(sumo: Any) -> dict[str, list[str]]:
+    """Returns the routes of the vehicles that wait to get into the network."""
+    names = sumo.simulation.getPendingVehicles()
+    return {it: list(sumo.vehicle.getRoute(it)) for it in names}
 
 
 def built_areas(street: Map, network: Network, out: pathlib.Path) -> tuple[Areas, tuple[pathlib.Path, ...]]:

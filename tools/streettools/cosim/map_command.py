@@ -5,22 +5,27 @@ import pathlib
 
 from ..shared import files
 from ..shared.commandline import Parser, add_output
-from ..shared.saying import say
+from ..shared.saying import say, say_replaced
 from ..shared.status import Status
+from ..shared.tables import Tables
 from . import network
 from .compass import WAYS
 from .drive import read_config
-from .map_making import LENGTH, Maker
+from .map_making import LENGTH, Maker, Said
+from .queues.checks import tables_of
+from .run import read_scenario
 
 EXAMPLES = """\
 examples:
   ./arterial cosim map street.net.xml -o map.toml              # by the approaches' compass and turns
   ./arterial cosim map street.sumocfg --main E -o map.toml     # phase 2 drives east at each signal
+  ./arterial cosim map street.net.xml --scenario street.json   # only phases that its cabinets have
   ./arterial cosim map street.net.xml --phase 'c0 SB2T=8'      # answers a question that was asked
   ./arterial cosim map street.net.xml --permissive             # left turns also yield under the opposite phase
 
 If a network has SUMO's NEMA logic, its phases are used. A phase that can't be decided is "?" in the map, with a
-question on standard error; `run` refuses a map with a "?" left. docs/COSIM.md explains maps."""
+question on standard error; `run` refuses a map with a "?" left. The tool also asks about movements that cross and may
+be green at once: a phase that you give never makes a movement yield; --yields does. docs/COSIM.md explains maps."""
 
 
 def answer(text: str) -> tuple[tuple[str, str], int]:
@@ -30,6 +35,14 @@ def answer(text: str) -> tuple[tuple[str, str], int]:
     if not (signal and movement and phase.isdigit() and 1 <= int(phase) <= 16):
         raise argparse.ArgumentTypeError(f"{text}: as in 'c0 EBL=5'")
     return (signal, movement), int(phase)
+
+
+def place(text: str) -> tuple[str, str]:
+    """Reads a signal and a movement."""
+    signal, _, movement = text.partition(" ")
+    if not (signal and movement):
+        raise argparse.ArgumentTypeError(f"{text}: as in 'c0 EBL'")
+    return signal, movement
 
 
 def parser() -> argparse.ArgumentParser:
@@ -44,6 +57,10 @@ def parser() -> argparse.ArgumentParser:
     words.add_argument("--main", choices=list(WAYS), help="the way in which phase 2 drives, at each signal")
     words.add_argument("--phase", type=answer, action="append", default=[], metavar="'SIGNAL MOVEMENT=N'",
                        help="the phase of a movement of a signal; may be repeated")  # fmt: skip
+    words.add_argument("--yields", type=place, action="append", default=[], metavar="'SIGNAL MOVEMENT'",
+                       help="let a movement give way to those that it crosses; may be repeated")  # fmt: skip
+    words.add_argument("--scenario", type=pathlib.Path, metavar="FILE",
+                       help="the cabinets: the map has only phases that are enabled in them")  # fmt: skip
     words.add_argument(
         "--permissive", action="store_true", help="left turns with their own phase also yield under the opposite one"
     )
@@ -56,11 +73,18 @@ def main(given: list[str]) -> int:
     words = parser().parse_args(given)
     path = read_config(words.network).network if words.network.suffix == ".sumocfg" else words.network
     main_way = None if words.main is None else WAYS.index(words.main)
-    maker = Maker(network.read(path), main_way, dict(words.phase), words.length, words.permissive)
+    said = Said(main_way, dict(words.phase), frozenset(words.yields), words.permissive, words.length, tables(words))
+    maker = Maker(network.read(path), said)
     text = maker.text(path.name)
+    if words.output is not None:
+        say_replaced("cosim", pathlib.Path(words.output))
     with files.output(words.output) as out:
         out.write(text)
     for it in maker.questions:
-        how = f"--phase '{it.signal} {it.movement}=N'"
-        say("cosim", f"signal {it.signal}: which phase has {it.movement}? {it.why} ({how})")
+        say("cosim", it)
     return Status.REFUSED if maker.questions else Status.DONE
+
+
+def tables(words: argparse.Namespace) -> list[Tables]:
+    """Returns the tables of the cabinets, none where no scenario is given."""
+    return [] if words.scenario is None else list(tables_of(read_scenario(words.scenario)).values())

@@ -23,15 +23,16 @@ class Overlap:
 
 @dataclass(frozen=True)
 class MappedMovement:
-    """A movement: its name, the links of it, its phase or its overlap. Where it `yields` its green gives way, as that
-    of a right turn over a crossing; a `walk` is a crossing of pedestrians. A left turn may be `permissive` under
-    another phase than its own: while that one is green it has way, too, and gives way."""
+    """A movement: its name, the links of it, its phase or its overlap. If it `yields` its green gives way, as that of a
+    right turn over a crossing: to the movements that it names, or, with True, to all to whom SUMO lets it give way. A
+    `walk` is a crossing of pedestrians. A left turn may be `permissive` under another phase than its own: while that
+    one is green it has way, too, and gives way to vehicles from opposite and to pedestrians."""
 
     name: str
     links: tuple[str, ...]
     phase: int | None
     overlap: Overlap | None
-    yields: bool
+    yields: bool | tuple[str, ...]
     walk: bool
     permissive: int | None = None
 
@@ -42,9 +43,15 @@ class MappedMovement:
     def ways(self) -> tuple[tuple[int, bool], ...]:
         """Returns the phases under which the movement may have way, each with whether it gives way then."""
         if self.overlap:
-            return tuple((phase, self.yields) for phase in self.overlap.parents)
-        own = ((self.phase, self.yields),)
+            return tuple((phase, bool(self.yields)) for phase in self.overlap.parents)
+        assert self.phase is not None, "a movement without an overlap has a phase"
+        own = ((self.phase, bool(self.yields)),)
         return own if self.permissive is None else (*own, (self.permissive, True))
+
+
+    def yields_to(self, name: str) -> bool:
+        """Tells whether its green gives way to another movement by the word of the map."""
+        return self.yields is True or self.yields is not False and name in self.yields
 
 
 @dataclass(frozen=True)
@@ -113,6 +120,12 @@ def overlap_of(given: Given) -> Overlap | None:
     return Overlap(parents, *times) if parents else None
 
 
+def yields_of(given: Given) -> bool | tuple[str, ...]:
+    """Reads to whom a movement gives way: true, or the names of movements."""
+    is_list = isinstance(given.table.get("yields"), list)
+    return given.texts("yields") if is_list else given.take("yields", bool, False)
+
+
 def movement_of(given: Given) -> MappedMovement:
     """Reads a movement."""
     overlap = overlap_of(given)
@@ -127,12 +140,14 @@ def movement_of(given: Given) -> MappedMovement:
         given.texts("links"),
         phase,
         overlap,
-        given.take("yields", bool, False),
+        yields_of(given),
         given.take("walk", bool, False),
         given.within("permissive", int, 1, MOST_PHASE),
     )
     if not found.links:
         raise given.refuse("links", "is missing")
+    if found.walk and found.yields:
+        raise given.refuse("yields", "is of vehicles: a walk has the right of way")
     if found.permissive is not None and (overlap or found.walk or found.permissive == phase):
         raise given.refuse("permissive", "must differ from the phase of vehicles, without overlap or walk")
     return found
@@ -166,6 +181,10 @@ def signal_of(given: Given) -> MappedSignal:
     names = [it.name for it in found.movements]
     if twice := next((it for it in names if names.count(it) > 1), None):
         raise given.refuse("movement", f"has two of the name {twice}")
+    for it in found.movements:
+        others = () if isinstance(it.yields, bool) else it.yields
+        if strange := next((other for other in others if other not in names), None):
+            raise given.refuse("movement", f"{it.name} yields to {strange}, which is not a movement of this signal")
     return found
 
 

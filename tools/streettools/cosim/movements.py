@@ -5,8 +5,9 @@ The same for SUMO's vehicles and for those of the model of queues. docs/QUEUES.m
 
 from bisect import bisect_left, bisect_right
 from collections import defaultdict
-from collections.abc import Iterable
+from collections.abc import Iterable, Iterator
 from dataclasses import dataclass, field
+from itertools import pairwise
 
 from .queues.signals import Spans
 from .records import Kind, Movement, Passage, QueueSample, Study, Trip
@@ -35,6 +36,12 @@ class Count:
     failures: int = 0
     green_time: float = 0.0
     time: float = 0.0
+    arrivals: int = 0
+    """How many would have passed the line in the time that counts, had nothing held them."""
+    capacity: float | None = None
+    """How many the greens could have discharged; None where that isn't known."""
+    full_time: float | None = None
+    """How long as many vehicles were before the line as fit there; None where there is no limit."""
 
     def passed(self, it: Passage) -> None:
         """Counts a passage."""
@@ -109,9 +116,53 @@ def green_times(count: Count, spans: Spans, start: float, end: float) -> None:
     count.green_time = sum(max(0.0, min(off, end) - max(on, start)) for on, off in zip(spans.starts, spans.ends))
 
 
+def capacity(movement: Movement, spans: Spans, start: float, end: float) -> float | None:
+    """Returns how many vehicles the greens of a movement that began from a second on could discharge: each its
+    effective green by the saturation flow."""
+    if movement.service is None:
+        return None
+    flow, lost, used = movement.service
+    greens = ((on, off) for on, off in zip(spans.starts, spans.ends) if start <= on < end)
+    return sum(max(off - on - lost + used, 0.0) for on, off in greens) * flow / 3600
+
+
+def full_time(movement: Movement, stays: list[tuple[float, float]], start: float, end: float) -> float | None:
+    """Returns how long a movement had as many vehicles as fit; `stays` are from when to when each was there."""
+    if movement.storage is None:
+        return None
+    changes = sorted([(on, 1) for on, _ in stays] + [(off, -1) for _, off in stays])
+    found, count, since = 0.0, 0, start
+    for at, change in (*changes, (end, 0)):
+        now = min(max(at, start), end)
+        if count >= movement.storage:
+            found += now - since
+        count, since = count + change, now
+    return found
+
+
+def stays_of(trips: Iterable[Trip], end: float) -> dict[Key, list[tuple[float, float]]]:
+    """Returns from when to when each vehicle was between the stop line before and each of its own."""
+    found: dict[Key, list[tuple[float, float]]] = defaultdict(list)
+    for trip in trips:
+        for one, other in pairwise(trip.passages):
+            found[other.cabinet, other.movement].append((one.released, other.released))
+        if trip.waits is not None and trip.passages:
+            found[trip.waits[0], trip.waits[1]].append((trip.passages[-1].released, end))
+    return found
+
+
 def counted_trips(study: Study) -> list[Trip]:
     """Returns the trips that began after the time that is left out."""
     return [it for it in study.trips if it.depart >= study.warm]
+
+
+def reached(trips: Iterable[Trip]) -> Iterator[tuple[Key, float]]:
+    """Yields each movement that a vehicle came to, with when; also the last one, where it waited at the end."""
+    for trip in trips:
+        for it in trip.passages:
+            yield (it.cabinet, it.movement), it.arrived
+        if trip.waits is not None:
+            yield trip.waits[:2], trip.waits[2]
 
 
 def counts(study: Study, greens: Greens) -> dict[Key, Count]:
@@ -126,11 +177,17 @@ def counts(study: Study, greens: Greens) -> dict[Key, Count]:
     for sample in study.queues:
         rows[sample.cabinet, sample.movement].append(sample)
     start = min(study.warm, study.seconds)
+    stays = stays_of(study.trips, study.seconds)
+    for key, at in reached(study.trips):
+        if start <= at < study.seconds and key in found:
+            found[key].arrivals += 1
     for movement in study.movements:
         key = (movement.cabinet, movement.name)
         spans = greens_of(movement, greens)
         green_times(found[key], spans, start, study.seconds)
         queues(found[key], rows[key], start, study.seconds)
+        found[key].capacity = capacity(movement, spans, start, study.seconds)
+        found[key].full_time = full_time(movement, stays[key], start, study.seconds)
         late = failed(spans.starts, passages[key])
         found[key].failures = sum(1 for it in late if it >= study.warm)
     return found

@@ -5,7 +5,6 @@ right of way is that of SUMO: links of vehicles by incoming lanes, then the cros
 """
 
 import functools
-import gzip
 import itertools
 import math
 import pathlib
@@ -16,11 +15,13 @@ from dataclasses import dataclass, field
 from typing import NamedTuple
 
 from ..shared.fault import Fault
-from ..shared.status import Status
+from .xml_file import root_of
 
 OF_TRAINS = ("rail_crossing", "rail_signal")
 """Kinds of junctions whose signals SUMO switches by the trains themselves; no cabinet has them."""
 STRAIGHT, LEFT, RIGHT, TURN, CROSSING = "s", "l", "r", "t", "c"
+OPPOSITE = 120
+"""Approaches whose headings differ by at least so many degrees are opposite."""
 TURNS = {"s": STRAIGHT, "l": LEFT, "L": LEFT, "r": RIGHT, "R": RIGHT, "t": TURN}
 
 
@@ -29,7 +30,7 @@ class Link(NamedTuple):
     matrix; `turn` is one of the five letters above."""
 
     signal: str
-    index: int
+    index: int  # type: ignore[assignment]  # a tuple's own index isn't used
     junction: str
     place: int
     start: str
@@ -89,7 +90,7 @@ class Program(NamedTuple):
 class Network:
     """All that is kept of a network. `foes` and `yields` have pairs of places in the matrix of each junction: paths
     that cross or join, and who gives way to whom where both have a green that yields. `inner` is the way over a
-    junction from an edge to an edge."""
+    junction from an edge to an edge, `vias` the first lane over it of each link, by its name."""
 
     path: pathlib.Path
     edges: dict[str, Edge] = field(default_factory=dict)
@@ -100,11 +101,12 @@ class Network:
     lanes: dict[str, float] = field(default_factory=dict)
     sidewalks: set[str] = field(default_factory=set)
     inner: dict[tuple[str, str], Part] = field(default_factory=dict)
+    vias: dict[str, str] = field(default_factory=dict)
     programs: dict[str, Program] = field(default_factory=dict)
 
     def conflicts(self, signal: str) -> Iterator[tuple[Link, Link]]:
         """Yields the pairs of links of a signal whose paths cross or join."""
-        by_junction = defaultdict(dict)
+        by_junction: dict[str, dict[int, Link]] = defaultdict(dict)
         for link in self.links[signal]:
             by_junction[link.junction][link.place] = link
         for junction, places in by_junction.items():
@@ -115,6 +117,15 @@ class Network:
     def gives_way(self, one: Link, other: Link) -> bool:
         """Tells whether a link with a green that yields lets another go first."""
         return (one.place, other.place) in self.yields[one.junction]
+
+
+    def meets(self, one: Link, other: Link) -> bool:
+        """Tells whether a turn gives way to another link by the rules of the road while both are green: to a crossing,
+        and to who comes from opposite (within 60 degrees)."""
+        if CROSSING in (one.turn, other.turn):
+            return one.turn != CROSSING
+        turned = self.edges[one.approach].heading - self.edges[other.approach].heading
+        return abs((turned + 180) % 360 - 180) >= OPPOSITE
 
 
 def edge_of(lane: str) -> str:
@@ -134,43 +145,48 @@ def heading(shape: str) -> float:
 @functools.lru_cache(maxsize=8)
 def read(path: pathlib.Path) -> Network:
     """Reads a network; one that can't be read is a fault."""
-    try:
-        with gzip.open(path) if path.suffix == ".gz" else open(path, "rb") as text:
-            root = xml.parse(text).getroot()
-    except OSError as fault:
-        raise Fault(f"{path}: {fault.strerror or fault}", Status.FILE) from None
-    except xml.ParseError as fault:
-        raise Fault(f"{path}: no XML: {fault}") from None
+    root = root_of(path)
     if root.tag != "net":
         raise Fault(f"{path}: no network of SUMO: its first element is {root.tag}")
     found = Network(path)
-    read_edges(root, found)
-    read_links(root, found)
-    read_inner(root, found)
-    read_programs(root, found)
+    try:
+        for reads in (read_edges, read_links, read_inner, read_programs):
+            reads(root, found)
+    except (ValueError, IndexError, ZeroDivisionError) as fault:
+        raise Fault(f"{path}: no network of SUMO: {fault}") from None
+    except KeyError as fault:
+        raise Fault(f"{path}: no network of SUMO: {fault} is missing") from None
+    return found
+
+
+def of(element: xml.Element, name: str) -> str:
+    """Returns an attribute, which has to be there."""
+    found = element.get(name)
+    if found is None:
+        raise ValueError(f"{element.tag} without {name}")
     return found
 
 
 def read_edges(root: xml.Element, found: Network) -> None:
     """Reads edges, lanes and crossings."""
     for edge in root.iter("edge"):
-        name, lanes = edge.get("id"), edge.findall("lane")
+        name, lanes = of(edge, "id"), edge.findall("lane")
         for lane in lanes:
-            found.lanes[lane.get("id")] = float(lane.get("length"))
+            found.lanes[of(lane, "id")] = float(of(lane, "length"))
             if lane.get("allow") == "pedestrian":
-                found.sidewalks.add(lane.get("id"))
+                found.sidewalks.add(of(lane, "id"))
         if edge.get("function") == "crossing":
             found.crossings[name] = tuple(edge.get("crossingEdges", "").split())
         if edge.get("function", "normal") != "normal" or not lanes:
             continue
-        shape = edge.get("shape") or lanes[-1].get("shape")
+        shape = edge.get("shape") or of(lanes[-1], "shape")
         found.edges[name] = Edge(
             name,
-            edge.get("from"),
-            edge.get("to"),
+            of(edge, "from"),
+            of(edge, "to"),
             sum(lane.get("id") not in found.sidewalks for lane in lanes),
-            max(float(lane.get("length")) for lane in lanes),
-            max(float(lane.get("speed")) for lane in lanes),
+            max(float(of(lane, "length")) for lane in lanes),
+            max(float(of(lane, "speed")) for lane in lanes),
             int(edge.get("priority", 0)),
             heading(shape),
             (heading(" ".join(reversed(shape.split()))) + 180) % 360,
@@ -181,7 +197,7 @@ def places_of(root: xml.Element, found: Network) -> dict[tuple[str, str], tuple[
     """Returns the junction of each link and its place in the matrix; also reads who crosses whom."""
     ways, crossings = defaultdict(list), defaultdict(list)
     for way in root.iter("connection"):
-        start, end = way.get("from"), way.get("to")
+        start, end = of(way, "from"), of(way, "to")
         if end in found.crossings:
             crossings[start.rpartition("_")[0].lstrip(":")].append((f"{start}_0", f"{end}_0"))
         elif not start.startswith(":") and not end.startswith(":"):
@@ -191,7 +207,7 @@ def places_of(root: xml.Element, found: Network) -> dict[tuple[str, str], tuple[
     for junction in root.iter("junction"):
         if junction.get("type") == "internal":
             continue
-        name = junction.get("id")
+        name = of(junction, "id")
         order = [way for lane in junction.get("incLanes", "").split() if lane[:1] != ":" for way in ways[lane]]
         order += sorted(crossings[name], key=lambda way: int(edge_of(way[1]).rpartition("c")[2]))
         places.update({way: (name, place) for place, way in enumerate(order)})
@@ -202,7 +218,7 @@ def places_of(root: xml.Element, found: Network) -> dict[tuple[str, str], tuple[
 
 def pairs(junction: xml.Element, kind: str) -> set[tuple[int, int]]:
     """Returns the pairs of places in a junction's matrix; SUMO writes a row from its last place to its first."""
-    rows = [(int(row.get("index")), row.get(kind)[::-1]) for row in junction.iter("request")]
+    rows = [(int(of(row, "index")), of(row, kind)[::-1]) for row in junction.iter("request")]
     return {(a, b) for a, row in rows for b, it in enumerate(row) if it == "1"}
 
 
@@ -216,19 +232,21 @@ def read_links(root: xml.Element, found: Network) -> None:
             continue
         start, end = (f"{way.get(side)}_{way.get(side + 'Lane')}" for side in ("from", "to"))
         is_crossing = way.get("to") in found.crossings
-        turn = CROSSING if is_crossing else TURNS.get(way.get("dir"), STRAIGHT)
-        signal = way.get("tl")
-        links[signal].append(Link(signal, int(way.get("linkIndex")), *places[start, end], start, end, turn))
+        turn = CROSSING if is_crossing else TURNS.get(way.get("dir", ""), STRAIGHT)
+        signal = of(way, "tl")
+        links[signal].append(Link(signal, int(of(way, "linkIndex")), *places[start, end], start, end, turn))
     found.links = {signal: sorted(rows, key=lambda it: it.index) for signal, rows in sorted(links.items())}
 
 
 def read_inner(root: xml.Element, found: Network) -> None:
     """Reads the ways over junctions, which may be of two lanes, one behind the other."""
-    parts = {it.get("id"): Part(float(it.get("length")), float(it.get("speed"))) for it in root.iter("lane")}
-    ways = [(it, it.get("via")) for it in root.iter("connection") if it.get("via")]
+    parts = {of(it, "id"): Part(float(of(it, "length")), float(of(it, "speed"))) for it in root.iter("lane")}
+    ways = [(it, it.attrib["via"]) for it in root.iter("connection") if it.get("via")]
+    for it, via in ways:
+        found.vias[f"{it.get('from')}_{it.get('fromLane')} {it.get('to')}_{it.get('toLane')}"] = via
     behind = {f"{it.get('from')}_{it.get('fromLane')}": via for it, via in ways}
     for way, via in ways:
-        key = way.get("from"), way.get("to")
+        key = of(way, "from"), of(way, "to")
         if key[0] in found.edges and key[1] in found.edges and key not in found.inner:
             chain = [parts[it] for it in (via, behind.get(via)) if it]
             metres = sum(it.metres for it in chain)
@@ -238,7 +256,7 @@ def read_inner(root: xml.Element, found: Network) -> None:
 def read_programs(root: xml.Element, found: Network) -> None:
     """Reads the first program of each signal."""
     for logic in root.iter("tlLogic"):
-        signal, kind = logic.get("id"), logic.get("type", "static")
-        stages = [Stage(float(it.get("duration")), it.get("state"), it.get("name", "")) for it in logic.iter("phase")]
-        params = {it.get("key"): it.get("value") for it in logic.iter("param")}
+        signal, kind = of(logic, "id"), logic.get("type", "static")
+        stages = [Stage(float(of(it, "duration")), of(it, "state"), it.get("name", "")) for it in logic.iter("phase")]
+        params = {of(it, "key"): of(it, "value") for it in logic.iter("param")}
         found.programs.setdefault(signal, Program(kind, tuple(stages), params))

@@ -5,7 +5,6 @@ the signal before (or since it started); so the loss of getting away from the si
 """
 
 import bisect
-import math
 import pathlib
 import xml.etree.ElementTree as xml
 from collections import defaultdict
@@ -15,14 +14,14 @@ from typing import NamedTuple
 from .halts import Halt
 from .mapping import Map
 from .network import CROSSING, Network, Part
-from .records import Kind, Movement, Passage, QueueSample, Trip
+from .records import Kind, Passage, Trip
 from .signals import GREEN
 
 KINDS = {"bus": Kind.BUS, "coach": Kind.BUS, "tram": Kind.BUS, "emergency": Kind.EMERGENCY}
 RAIL = ("rail", "rail_urban", "rail_electric", "rail_fast")
 UNKNOWN_SPEED = 1000.0
-Counts = dict[float, int]
-"""How many stood at each second."""
+Stood = set[tuple[str, str]]
+"""Vehicles that stood, each with the edge."""
 
 
 class Served(NamedTuple):
@@ -44,14 +43,6 @@ class Way(NamedTuple):
     entered: float
     passed: float | None
     parts: tuple[Part, ...]
-
-
-class Spell(NamedTuple):
-    """From when to when a vehicle was on its way to a stop line, and where it counts if it stands there."""
-
-    entered: float
-    passed: float
-    counts: Counts
 
 
 class Routes:
@@ -91,10 +82,11 @@ class Routes:
                 parts[0] = Part(max(parts[0].metres - start, 0.0), parts[0].speed)
             else:
                 del parts[0]
-            yield Way(self.turns[edge, end], tuple(edges[first : k + 1]), entered, exits[k], tuple(parts))
-            if exits[k] is None:
+            left = exits[k]
+            yield Way(self.turns[edge, end], tuple(edges[first : k + 1]), entered, left, tuple(parts))
+            if left is None:
                 return
-            first, entered = k + 1, exits[k]
+            first, entered = k + 1, left
 
 
 def exits_of(text: str | None, count: int, begin: float) -> list[float | None]:
@@ -137,21 +129,42 @@ class Traffic:
         at = bisect.bisect_right(seconds, second) - 1
         return at >= 0 and states[at][served.place] in GREEN
 
-    def read_routes(self, path: pathlib.Path, begin: float, starts: dict[str, float]) -> None:
-        """Reads SUMO's file of routes; `starts` are the places where vehicles began on their first edges."""
+    def read_routes(self, path: pathlib.Path, begin: float, starts: dict[str, "Begun"]) -> None:
+        """Reads SUMO's file of routes; `starts` is where and how late vehicles began. The way to the first stop line
+        begins when a vehicle wanted to start."""
         for name, edges, exits, depart in routes_of(path):
             left = exits_of(exits, len(edges), begin)
-            self.ways[name] = list(self.routes.ways(edges, left, depart - begin, starts.get(name, 0.0)))
+            begun = starts.get(name, Begun(0.0, 0.0))
+            self.ways[name] = list(self.routes.ways(edges, left, depart - begun.late - begin, begun.place))
 
-    def passages(self, vehicle: str, factor: float, most: float, stood: set[tuple[str, str]]) -> tuple[Passage, ...]:
+    def wait(self, pending: dict[str, list[str]], path: pathlib.Path, end: float) -> None:
+        """Takes the routes of those who wait to get in at the end of a run; their wait is in SUMO's file of trips."""
+        for name, begun in starts_of(path).items() if pending else ():
+            if begun.place < 0 and name in pending:
+                edges = pending[name]
+                self.ways[name] = list(self.routes.ways(edges, [None] * len(edges), end - begun.late, 0.0))
+
+    def reaches(self, vehicle: str, way: Way, factor: float, most: float) -> float:
+        """Returns when a vehicle would pass a stop line that drives at `factor` times the limit, and at `most` at the
+        most."""
+        free = sum(it.metres / min(it.speed * factor, most) for it in way.parts)
+        return way.entered + free + sum(self.stops.get((vehicle, it), 0.0) for it in way.edges)
+
+    def waits(self, vehicle: str, factor: float, most: float, end: float) -> tuple[int, str, float] | None:
+        """Returns the stop line at which a vehicle waited when the run ended, None where it didn't."""
+        ways = self.ways.get(vehicle, ())
+        if not ways or ways[-1].passed is not None:
+            return None
+        at = round(self.reaches(vehicle, ways[-1], factor, most), 2)
+        return (ways[-1].served.cabinet, ways[-1].served.movement, at) if at < end else None
+
+    def passages(self, vehicle: str, factor: float, most: float, stood: Stood) -> tuple[Passage, ...]:
         """Returns the passages of a vehicle that drives at `factor` times the limit, and at `most` at the most."""
         found = []
         for way in self.ways.get(vehicle, ()):
             if way.passed is None:
                 continue
-            free = sum(it.metres / min(it.speed * factor, most) for it in way.parts)
-            at_stops = sum(self.stops.get((vehicle, it), 0.0) for it in way.edges)
-            arrived = min(way.entered + free + at_stops, way.passed)
+            arrived = min(self.reaches(vehicle, way, factor, most), way.passed)
             served = way.served
             found.append(
                 Passage(
@@ -167,48 +180,24 @@ class Traffic:
             )
         return tuple(found)
 
-    def places(self, standing: dict[tuple[int, str], Counts]) -> dict[tuple[str, str], list[Spell]]:
-        """Returns the spells of each vehicle on each edge on its way to stop lines."""
-        found = defaultdict(list)
-        for vehicle, ways in self.ways.items():
-            for way in ways:
-                passed = math.inf if way.passed is None else way.passed
-                counts = standing[way.served.cabinet, way.served.movement]
-                for edge in way.edges:
-                    found[vehicle, edge].append(Spell(way.entered, passed, counts))
-        return found
-
-    def queues(self, halts: list[Halt], movements: list[Movement], seconds: float) -> list[QueueSample]:
-        """Returns how many stood before each stop line, at each second at which it changed."""
-        standing: dict[tuple[int, str], Counts] = {(it.cabinet, it.name): defaultdict(int) for it in movements}
-        places = self.places(standing)
-        for second, edge, vehicles in halts:
-            for vehicle in vehicles:
-                for entered, passed, counts in places.get((vehicle, edge), ()):
-                    if entered <= second <= passed:
-                        counts[second] += 1
-                        break
-        found = []
-        for key, counts in standing.items():
-            before = 0
-            for second in range(int(seconds) + 1):
-                now = counts.get(float(second), 0)
-                if now != before:
-                    found.append(QueueSample(*key, float(second), now))
-                before = now
-        return found
-
 
 def kind_of(vehicle_class: str) -> Kind:
     """Returns the kind of a vehicle of a class of SUMO."""
     return Kind.TRAIN if vehicle_class in RAIL else KINDS.get(vehicle_class, Kind.CAR)
 
 
+class Begun(NamedTuple):
+    """Where a vehicle began on its first edge, in metres, and how many seconds later than it wanted."""
+
+    place: float
+    late: float
+
+
 def trips_of(
-    path: pathlib.Path, traffic: Traffic, begin: float, types: dict[str, tuple[str, float]], halts: list[Halt]
+    path: pathlib.Path, traffic: Traffic, begin: float, types: dict[str, tuple[str, float]], stood: Stood, end: float
 ) -> list[Trip]:
-    """Returns the trips in SUMO's file of trips; `types` has the class and the greatest speed of each type."""
-    stood = {(vehicle, it.edge) for it in halts for vehicle in it.vehicles}
+    """Returns the trips of vehicles in SUMO's file of trips; `types` has the class and the greatest speed of each type,
+    `end` is when the run ended."""
     found = []
     for _, element in xml.iterparse(path):
         if element.tag != "tripinfo":
@@ -216,26 +205,44 @@ def trips_of(
         name = element.get("id")
         vehicle_class, most = types.get(element.get("vType", "").partition("@")[0], ("passenger", UNKNOWN_SPEED))
         late, arrival = float(element.get("departDelay")), float(element.get("arrival"))
-        passages = traffic.passages(name, float(element.get("speedFactor", 1)), most, stood)
+        factor, depart = float(element.get("speedFactor", 1)), float(element.get("depart"))
+        wanted = end - late if depart < 0 else depart - late - begin
         found.append(
             Trip(
                 name,
                 name.rpartition(".")[0] or name,
                 kind_of(vehicle_class),
-                passages,
-                round(float(element.get("depart")) - late - begin, 2),
+                traffic.passages(name, factor, most, stood),
+                round(wanted, 2),
                 None if arrival < 0 else round(arrival - begin, 2),
                 round(float(element.get("timeLoss")) + late, 2),
                 int(element.get("waitingCount")),
+                traffic.waits(name, factor, most, end),
             )
         )
     return found
 
 
-def starts_of(path: pathlib.Path) -> dict[str, float]:
-    """Returns where each vehicle began on its first edge, in metres."""
+def stood_of(halts: list[Halt]) -> Stood:
+    """Returns who stood on which edge."""
+    return {(vehicle, it.edge) for it in halts for vehicle in it.vehicles}
+
+
+def starts_of(path: pathlib.Path) -> dict[str, Begun]:
+    """Returns where and how late each vehicle began."""
     return {
-        element.get("id"): float(element.get("departPos"))
+        element.get("id"): Begun(float(element.get("departPos")), float(element.get("departDelay")))
         for _, element in xml.iterparse(path)
         if element.tag == "tripinfo"
     }
+
+
+def walks_of(path: pathlib.Path, begin: float) -> dict[str, tuple[float, float | None]]:
+    """Returns when each person began its way, and when it ended, None where it was under way."""
+    found: dict[str, tuple[float, float | None]] = {}
+    for _, element in xml.iterparse(path):
+        if element.tag == "personinfo":
+            ends = [float(it.get("arrival", -1)) for it in element]
+            ended = round(ends[-1] - begin, 2) if ends and min(ends) >= 0 else None
+            found[element.get("id", "")] = round(float(element.get("depart", 0)) - begin, 2), ended
+    return found

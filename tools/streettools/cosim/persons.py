@@ -59,8 +59,9 @@ class Buttons:
             for movement in (it for it in signal.movements if it.walk):
                 for link in (links[name] for name in movement.links):
                     near = tuple(sorted(it for it in known if it.startswith(f":{link.junction}_w")))
-                    row = signal.cabinet, movement.name, movement.phase
-                    self.crossings.append(Crossing(*row, edge_of(link.end), near))
+                    assert movement.phase is not None, "a crossing has a phase"
+                    edge = edge_of(link.end)
+                    self.crossings.append(Crossing(signal.cabinet, movement.name, movement.phase, edge, near))
         self.areas = sorted({area for it in self.crossings for area in it.areas})
 
     def look(self, sumo: Any, signals: Signals, second: float) -> Iterator[bytes]:

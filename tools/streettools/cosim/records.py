@@ -7,7 +7,7 @@ start of the run, so tick T of the trace is second T / 10; distances are metres.
 import enum
 import json
 import pathlib
-from collections.abc import Iterator
+from collections.abc import Iterable, Iterator
 from dataclasses import dataclass, field
 from typing import Any, NamedTuple
 
@@ -28,16 +28,21 @@ class Kind(enum.StrEnum):
 class Movement(NamedTuple):
     """A movement at an intersection: its cabinet (from 1), a name that is its own there (as `EBT`, `NBL`, or
     `ped 4`), and the phase that serves it, None where an overlap does; `parents` are the phases of that overlap, or
-    the phase and the one under which it has way beside it, giving way."""
+    the phase and the one under which it has way beside it, giving way. `service` is how a queue of it discharges: the
+    saturation flow of all its lanes in vehicles an hour, the start-up lost time and the part of yellow that is used, in
+    seconds; None where that isn't known, or where gaps decide. `storage` is how many vehicles fit before its stop line,
+    None where there is no limit."""
 
     cabinet: int
     name: str
     phase: int | None
     parents: tuple[int, ...] = ()
+    service: tuple[float, float, float] | None = None
+    storage: int | None = None
 
     def phases(self) -> tuple[int, ...]:
         """Returns the phases under which the movement may have way."""
-        return self.parents or (self.phase,)
+        return self.parents or (() if self.phase is None else (self.phase,))
 
 
 class Passage(NamedTuple):
@@ -59,7 +64,8 @@ class Passage(NamedTuple):
 class Trip(NamedTuple):
     """A whole way of a vehicle or a person. `route` is the name of the flow, the line or the route; `depart` is when
     it wanted to start, `arrive` when it was there, None if it was still under way at the end; `delay` is the time lost
-    against driving freely, with the wait to get in; `stops` is how often it stood."""
+    against driving freely, with the wait to get in; `stops` is how often it stood. `waits` is the stop line at which it
+    waited when the run ended: the cabinet, the movement, and when it would have passed there; None where it didn't."""
 
     vehicle: str
     route: str
@@ -69,16 +75,36 @@ class Trip(NamedTuple):
     arrive: float | None
     delay: float
     stops: int
+    waits: tuple[int, str, float] | None = None
 
 
 class QueueSample(NamedTuple):
-    """How many vehicles of a movement stood before its stop line at a second. The number holds until the next sample
-    of the movement, and is 0 before its first."""
+    """How many vehicles of a movement waited at its stop line at a second: would have passed it, and hadn't. The number
+    holds until the next sample of the movement, and is 0 before its first."""
 
     cabinet: int
     movement: str
     second: float
     vehicles: int
+
+
+def queue_samples(trips: Iterable[Trip], movements: Iterable[Movement]) -> list[QueueSample]:
+    """Returns how many vehicles waited at each stop line whenever that changed: those that would have passed it, had
+    nothing held them, and hadn't."""
+    changes: dict[tuple[int, str], list[tuple[float, int]]] = {(it.cabinet, it.name): [] for it in movements}
+    for trip in trips:
+        for it in trip.passages:
+            if it.arrived < it.released and trip.kind is not Kind.PERSON:
+                changes[it.cabinet, it.movement] += ((it.arrived, 1), (it.released, -1))
+        if trip.waits is not None:
+            changes[trip.waits[:2]].append((trip.waits[2], 1))
+    found = []
+    for (cabinet, movement), rows in changes.items():
+        count = 0
+        for at, change in sorted(rows):
+            count += change
+            found.append(QueueSample(cabinet, movement, at, count))
+    return found
 
 
 class Request(NamedTuple):
@@ -91,6 +117,18 @@ class Request(NamedTuple):
     phase: int
     made: float
     cancelled: float | None
+
+
+class LaneFlow(NamedTuple):
+    """How a lane's queue discharged, as it was measured: of how many greens and vehicles, the saturation flow in
+    vehicles an hour, the start-up lost time in seconds."""
+
+    cabinet: int
+    lane: str
+    greens: int
+    vehicles: int
+    saturation: int
+    lost: float
 
 
 @dataclass
@@ -107,6 +145,7 @@ class Study:
     warm: float = 0.0
     requests: list[Request] = field(default_factory=list)
     title: str = ""
+    lanes: list[LaneFlow] = field(default_factory=list)
 
     @property
     def passages(self) -> Iterator[Passage]:
@@ -132,6 +171,7 @@ def written(study: Study) -> dict[str, Any]:
         "trips": study.trips,
         "queues": study.queues,
         "requests": study.requests,
+        "lanes": study.lanes,
     }
 
 
@@ -139,11 +179,15 @@ def read(document: dict[str, Any], folder: pathlib.Path) -> Study:
     """Returns the study that `written` gave; the trace stands in the folder."""
 
     def trip(row: list[Any]) -> Trip:
-        vehicle, route, kind, passages, *rest = row
-        return Trip(vehicle, route, Kind(kind), tuple(Passage(*it) for it in passages), *rest)
+        vehicle, route, kind, passages, depart, arrive, delay, stops, waits = (*row, None)[:9]
+        told = tuple(Passage(*it) for it in passages)
+        wait: tuple[int, str, float] | None = (waits[0], waits[1], waits[2]) if waits else None
+        return Trip(vehicle, route, Kind(kind), told, depart, arrive, delay, stops, wait)
 
     def movement(row: list[Any]) -> Movement:
-        return Movement(*row[:3], tuple(row[3]))
+        cabinet, name, phase, parents, service, storage = (*row, None, None)[:6]
+        served = (service[0], service[1], service[2]) if service else None
+        return Movement(cabinet, name, phase, tuple(parents), served, storage)
 
     return Study(
         cabinets=document["cabinets"],
@@ -155,6 +199,7 @@ def read(document: dict[str, Any], folder: pathlib.Path) -> Study:
         warm=document["warm"],
         requests=[Request(*row) for row in document["requests"]],
         title=document["title"],
+        lanes=[LaneFlow(*row) for row in document.get("lanes", ())],
     )
 
 

@@ -4,7 +4,8 @@
 """
 
 import json
-from collections.abc import Iterable
+from collections.abc import Iterable, Mapping
+from dataclasses import dataclass, field
 from typing import Any
 
 from .movements import Count, Greens, RouteCount, counts, is_of_persons, kinds, routes
@@ -14,6 +15,13 @@ from .records import Kind, Study
 SERVICE = ((10, "A"), (20, "B"), (35, "C"), (55, "D"), (80, "E"))
 """Level of service of a signalized intersection by its mean control delay (Highway Capacity Manual)."""
 Value = dict[str, Any]
+
+
+@dataclass(frozen=True)
+class More:
+    """What a study doesn't have: the names of cabinets."""
+
+    names: Mapping[int, str] = field(default_factory=dict)
 
 
 def greens_in(study: Study) -> Greens:
@@ -55,6 +63,8 @@ def value_of(count: Count) -> Value:
         "stops": share(count.stops, count.vehicles, 2),
         "on_green": on_green,
         "green": green,
+        "v_c": None if count.capacity is None else share(count.arrivals, count.capacity, 2),
+        "full": None if count.full_time is None else share(count.full_time, count.time),
         "platoon_ratio": round(on_green / green, 2) if on_green is not None and green else None,
         "queue_mean": share(count.queued, count.queue_time, 2),
         "queue_greatest": count.queue_greatest,
@@ -81,14 +91,15 @@ def route_value(count: RouteCount) -> Value:
     }
 
 
-def collect(study: Study, greens: Greens | None = None) -> Value:
+def collect(study: Study, greens: Greens | None = None, more: More | None = None) -> Value:
     """Returns the report; where no greens are given they come from the trace."""
+    more = more or More()
     found = counts(study, greens_in(study) if greens is None else greens)
     cabinets = {number: Count() for number in range(1, study.cabinets + 1)}
     moved, walked = [], []
     for it in study.movements:
         count = found[it.cabinet, it.name]
-        named = {"cabinet": it.cabinet, "movement": it.name, "phase": it.phase}
+        named: Value = {"cabinet": it.cabinet, "movement": it.name, "phase": it.phase}
         if is_of_persons(it):
             walked.append({**named, "persons": count.vehicles, "delay": share(count.delay, count.vehicles, 1)})
         else:
@@ -99,9 +110,13 @@ def collect(study: Study, greens: Greens | None = None) -> Value:
         "seconds": study.seconds,
         "warm": study.warm,
         "kinds": [{"kind": str(kind)} | route_value(it) for kind, it in kinds(study).items()],
-        "cabinets": [{"cabinet": number} | cabinet_value(it) for number, it in cabinets.items()],
+        "cabinets": [
+            {"cabinet": number} | ({"name": more.names[number]} if number in more.names else {}) | cabinet_value(it)
+            for number, it in cabinets.items()
+        ],
         "movements": moved,
         "crossings": walked,
+        "lanes": [it._asdict() for it in study.lanes],
         "routes": [
             {"kind": str(kind), "route": name} | route_value(it)
             for (kind, name), it in sorted(routes(study).items(), key=lambda it: (-it[1].trips, it[0]))
@@ -119,6 +134,8 @@ COLUMNS = {
     "on_green": "on green",
     "green": "green",
     "platoon_ratio": "ratio",
+    "v_c": "v/c",
+    "full": "full",
     "queue_mean": "queue",
     "queue_greatest": "greatest",
     "left": "left",
@@ -129,6 +146,9 @@ COLUMNS = {
 OF_CABINET = ("vehicles", "delay", "delay_95", "level", "stops", "on_green", "left", "split_failures")
 """The columns that a whole cabinet has: its movements have no green and no queue in common."""
 ROUTES = {"trips": "trips", "arrived": "arrived", "travel": "travel", "delay": "delay", "stops": "stops"}
+PLACED = ("cabinets", "movements", "crossings", "lanes")
+"""The tables whose rows are at a cabinet."""
+LANES = {name: name for name in ("cabinet", "lane", "greens", "vehicles", "saturation", "lost")}
 SHOWN = 12
 """So many routes are shown, those with the most trips first."""
 
@@ -151,17 +171,33 @@ def table(rows: Iterable[Value], heads: dict[str, str]) -> str:
     return "\n".join(lines) + "\n"
 
 
+def placed(value: Value) -> Value:
+    """Returns the report with the names of cabinets next to their numbers."""
+    names = {it["cabinet"]: f"{it['cabinet']} {it['name']}" for it in value["cabinets"] if "name" in it}
+    if not names:
+        return value
+    for key in PLACED:
+        value = value | {key: [it | {"cabinet": names.get(it["cabinet"], str(it["cabinet"]))} for it in value[key]]}
+    return value
+
+
 def text(value: Value) -> str:
     """Returns the report as tables for a terminal."""
+    value = placed(value)
     head = f"{value['title']}: " if value["title"] else ""
     counted = f", counted from {value['warm']:g} s on" if value["warm"] else ""
     parts = [f"{head}{value['seconds']:g} s{counted}; times in seconds\n"]
     parts.append(table(value["kinds"], {"kind": "who"} | ROUTES))
     parts.append(table(value["cabinets"], {"cabinet": "cabinet"} | {name: COLUMNS[name] for name in OF_CABINET}))
-    parts.append(table(value["movements"], {"cabinet": "cabinet", "movement": "movement", "phase": "phase"} | COLUMNS))
+    rows = value["movements"]
+    shown = [it for it in COLUMNS if it not in ("v_c", "full") or any(row[it] is not None for row in rows)]
+    heads = {"cabinet": "cabinet", "movement": "movement", "phase": "phase"} | {name: COLUMNS[name] for name in shown}
+    parts.append(table(rows, heads))
     if value["crossings"]:
         heads = {"cabinet": "cabinet", "movement": "crossing", "persons": "persons", "delay": "delay"}
         parts.append(table(value["crossings"], heads))
+    if value["lanes"]:
+        parts.append(table(value["lanes"], LANES))
     rows = value["routes"]
     if rows:
         parts.append(table(rows[:SHOWN], {"route": "route", "kind": "who"} | ROUTES))

@@ -2,17 +2,21 @@
 
 import argparse
 import pathlib
+from dataclasses import replace
+from typing import Any
 
 from ..shared.commandline import Parser, add_output, add_program, number
 from ..shared.fault import Fault
 from ..shared.program import found
 from ..shared.progress import bar
-from ..shared.saying import say
+from ..shared.saying import say, say_replaced
 from ..shared.status import Status
-from . import network
+from . import discharge, network
 from .drive import read_config
 from .loop import Given
 from .mapping import read_map
+from .queues.given import read_street
+from .queues.keeping import called_in, keep_names
 from .run import REPORT, TRACE, Done, read_scenario, run
 
 EXAMPLES = """\
@@ -40,10 +44,10 @@ def parser() -> argparse.ArgumentParser:
         description="Runs SUMO under the cabinets of a scenario: its detectors, persons, buses and trains call them.",
         epilog=EXAMPLES,
     )
-    path = {"type": pathlib.Path, "required": True}
+    path: dict[str, Any] = {"type": pathlib.Path, "required": True}
     words.add_argument("--sumo", **path, metavar="CONFIG", help="SUMO's configuration (*.sumocfg)")
     words.add_argument("--map", **path, metavar="MAP", help="the map: which link has which phase")
-    words.add_argument("--scenario", **path, metavar="FILE", help="the cabinets")
+    words.add_argument("--scenario", **path, metavar="FILE", help="the cabinets: a scenario, or a timing sheet")
     add_output(words, "the folder for all results", **path, metavar="FOLDER")
     words.add_argument(
         "--step", type=step_of, default=0.1, metavar="S", help="a step of SUMO: 0.1 or 1 second (default: 0.1)"
@@ -58,6 +62,12 @@ def parser() -> argparse.ArgumentParser:
     words.add_argument(
         "--warm", type=of_day, default=0, metavar="S", help="exclude trips that start earlier (default: 0)"
     )
+    words.add_argument("--saturation", type=number(100, 3600), default=1800, metavar="N",
+                       help="report lanes that don't discharge N vehicles an hour (default: 1800)")  # fmt: skip
+    words.add_argument("--lost", type=number(0, 10), default=2, metavar="S",
+                       help="report lanes that don't lose S seconds as a queue starts (default: 2)")  # fmt: skip
+    words.add_argument("--policy", type=pathlib.Path, metavar="FILE",
+                       help="a Python file whose function step(street) drives the cabinets")  # fmt: skip
     words.add_argument("--no-priority", action="store_true", help="buses don't request priority")
     add_program(words)
     return words
@@ -72,7 +82,8 @@ def given_of(words: argparse.Namespace) -> Given:
     seconds = words.seconds or whole
     if words.warm >= seconds:
         raise Fault(f"--warm {words.warm} is not less than the {seconds:g} seconds of the run")
-    return Given(config, street, known, scenario, words.step, seconds, words.seed, not words.no_priority, words.warm)
+    given = Given(config, street, known, scenario, words.step, seconds, words.seed, not words.no_priority, words.warm)
+    return replace(given, names=called_in(read_street(words.scenario).names), policy=words.policy)
 
 
 def tell(done: Done, given: Given, out: pathlib.Path) -> None:
@@ -93,12 +104,21 @@ def tell(done: Done, given: Given, out: pathlib.Path) -> None:
         say("cosim", f"{out / TRACE} and the report next to it: {found}")
 
 
+def tell_traffic(done: Done, given: Given, words: argparse.Namespace) -> None:
+    """Says what the delays of a run depend on."""
+    if given.step >= 1:
+        say("cosim", "steps of 1 s lower SUMO's saturation flow: they are for looking; measure delay with --step 0.1")
+    if done.study is not None and (line := discharge.difference(done.study.lanes, words.saturation, words.lost)):
+        say("cosim", line)
+
+
 def main(words: list[str]) -> int:
     """Runs, and returns the exit status."""
     given_words = parser().parse_args(words)
     program = found(given_words.program)
     given = given_of(given_words)
     out = given_words.output
+    say_replaced("cosim", out / TRACE)
     out.mkdir(parents=True, exist_ok=True)
     shown = bar(int(given.seconds), "s", smoothing=0.05)
     try:
@@ -106,7 +126,9 @@ def main(words: list[str]) -> int:
     finally:
         if shown is not None:
             shown.close()
+    keep_names(out, read_street(given_words.scenario))
     tell(done, given, out)
+    tell_traffic(done, given, given_words)
     if done.fault is not None:
         raise done.fault
     print((out / f"{REPORT}.txt").read_text(encoding="utf-8"), end="")

@@ -36,9 +36,12 @@ class Light:
 
     def letter(self, movement: MappedMovement, vehicles: str, walks: str, overlaps: dict[str, str]) -> str:
         """Returns SUMO's letter for a movement."""
-        if movement.walk:
+        if movement.phase is None:
+            shown = overlaps[movement.name]
+        elif movement.walk:
             return "G" if walks[movement.phase - 1] == "W" else "r"
-        shown = overlaps[movement.name] if movement.overlap else vehicles[movement.phase - 1]
+        else:
+            shown = vehicles[movement.phase - 1]
         letter = (YIELDING_COLOUR if movement.yields else COLOUR)[shown]
         if letter == "r" and movement.permissive is not None:
             return YIELDING_COLOUR[vehicles[movement.permissive - 1]]
@@ -73,7 +76,7 @@ class Watch:
 
     def __init__(self, network: Network, signals: Iterable[str], may_yield: MayYield, sumo: Any) -> None:
         self.state_of = call(sumo, "trafficlight", "getRedYellowGreenState")
-        self.crossing = {name: [] for name in signals}
+        self.crossing: dict[str, list[Crossing]] = {name: [] for name in signals}
         for name, rows in self.crossing.items():
             for a, b in network.conflicts(name):
                 a_yields = network.gives_way(a, b) and may_yield(a, b)

@@ -1,4 +1,5 @@
-"""The same street under SUMO's own controllers, with the times of a scenario: NEMA in two rings, and actuated stages.
+"""The same street under SUMO's own controllers: NEMA in two rings and actuated stages with the times of a scenario, or
+the static programs of the network.
 
 NEMA has the pattern in command as the cabinets open; where that is none it runs free. Neither has walk times,
 preempts or priority: a crossing has way with its phase. Under NEMA it has way as one that yields (SUMO's g), since SUMO
@@ -19,14 +20,16 @@ from . import drive
 from .checks import yielding_in
 from .drive import Start
 from .halts import Halts
-from .loop import Given, Times, types_of
+from .loop import Given, Times, pending_in, types_of
 from .mapping import MappedSignal
-from .network import Network
+from .network import Link, Network
 from .records import Trip
-from .run import read_traffic
-from .signals import Watch
+from .run import Left, Span, read_traffic
+from .signals import MayYield, Watch
 
 NEMA, ACTUATED = "nema", "actuated"
+STATIC = "static"
+"""The programs that the network itself has."""
 LOOP = 15
 
 
@@ -134,18 +137,27 @@ def programs(given: Given, controller: str) -> xml.ElementTree:
     return xml.ElementTree(root)
 
 
+def anything(one: Link, other: Link) -> bool:
+    """Lets a link yield: what a network's own program has is its own word."""
+    return True
+
+
 def run(
     given: Given, controller: str, out: pathlib.Path, progress: Callable[[int], object]
 ) -> tuple[list[Trip], Times]:
     """Runs SUMO under its own controller, and returns the trips. The watch over crossing paths looks, too."""
     sumo = drive.module()
-    path = out / "programs.add.xml"
-    programs(given, controller).write(path, encoding="unicode")
+    added: list[pathlib.Path] = []
+    may_yield: MayYield = anything
+    if controller != STATIC:
+        path = out / "programs.add.xml"
+        programs(given, controller).write(path, encoding="unicode")
+        added, may_yield = [path.resolve()], yielding_in(given.street, given.network, given.scenario)
     names = [it.id for it in given.street.signals]
-    watch = Watch(given.network, names, yielding_in(given.street, given.scenario), sumo)
+    watch = Watch(given.network, names, may_yield, sumo)
     halts, times = Halts(given.network, names, sumo), Times()
     begun = time.perf_counter()
-    with drive.running(sumo, Start(given.config, (path.resolve(),), given.step, given.seconds, given.seed, out)):
+    with drive.running(sumo, Start(given.config, tuple(added), given.step, given.seconds, given.seed, out)):
         a_second, take_step = max(round(1 / given.step), 1), drive.call(sumo, "simulation", "step")
         for step in range(given.steps()):
             take_step()
@@ -154,10 +166,11 @@ def run(
             if (step + 1) % a_second == 0:
                 halts.look(second)
                 progress(1)
-        types = types_of(sumo)
+        left = Left(types_of(sumo), pending_in(sumo))
     times.whole, times.steps = time.perf_counter() - begun, given.steps()
     history = {name: rows for name, rows in watch.history.items()}
-    trips, _ = read_traffic(given.street, given.network, history, halts.found, types, out, given.config.begin)
+    span = Span(given.config.begin, given.seconds)
+    trips, _ = read_traffic(given.street, given.network, history, halts.found, left, out, span)
     if not trips:
         raise Fault(f"{given.config.path}: no vehicle drove")
     return trips, times

@@ -15,7 +15,7 @@ import shutil
 import signal
 import subprocess
 from collections.abc import Iterator
-from typing import BinaryIO
+from typing import IO, BinaryIO
 
 from . import crates, kit, record
 from .lanes import NotProved
@@ -70,7 +70,7 @@ def copied(top: pathlib.Path, to: pathlib.Path, before: dict[str, str]) -> None:
             raise record.Changed(name)
 
 
-def lines_of(said: BinaryIO) -> Iterator[bytes]:
+def lines_of(said: IO[bytes]) -> Iterator[bytes]:
     """Yields each line as it is said, and nothing in it where a second passes without one."""
     held = b""
     while True:
@@ -86,7 +86,7 @@ def lines_of(said: BinaryIO) -> Iterator[bytes]:
             return
 
 
-def followed(said: BinaryIO, log: BinaryIO, proof_progress: ProofProgress) -> str | None:
+def followed(said: IO[bytes], log: BinaryIO, proof_progress: ProofProgress) -> str | None:
     """Tells of the crates as the kit says that they are done, and returns the first whose proof failed, if one did."""
     failed, before = None, []
     for line in lines_of(said):
@@ -118,6 +118,7 @@ def prove_all(rt: str, top: pathlib.Path, log: BinaryIO, proof_progress: ProofPr
             [rt, "ci"], cwd=copy, stdin=subprocess.DEVNULL, stdout=subprocess.PIPE, stderr=subprocess.STDOUT
         ) as tool:
             try:
+                assert tool.stdout is not None
                 failed = followed(tool.stdout, log, proof_progress)
             except BaseException:
                 tool.send_signal(signal.SIGTERM)

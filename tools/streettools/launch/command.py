@@ -1,5 +1,5 @@
 """What the launcher's shell hands over to Python: `launch prove`, `take`, `release`, `unproved`, `help`, `meant`,
-`due`, `refused`, `sums`, `record`, `where`."""
+`due`, `refused`, `overlap`, `sums`, `record`, `where`."""
 
 import json
 import pathlib
@@ -8,7 +8,7 @@ import sys
 from streettools.shared.saying import say
 from streettools.shared.status import Status
 
-from . import crates, due, help, hint, keeping, prove, record, refused, release, take, unproved
+from . import crates, due, help, hint, keeping, overlap, prove, record, refused, release, take, unproved
 
 
 def meant(words: list[str]) -> int:
@@ -50,6 +50,7 @@ DOES = {
     "meant": meant,
     "due": due.main,
     "refused": refused.main,
+    "overlap": overlap.main,
     "sums": sums,
     "record": recorded,
     "where": where,

@@ -1,11 +1,11 @@
 """Help of the launcher: the program's own, that of one command, and the commands that are not the program's."""
 
 import re
-import subprocess
 import sys
 from collections.abc import Iterable
 
 from streettools import words
+from streettools.shared.program import ran
 from streettools.shared.saying import say
 from streettools.shared.status import Status
 
@@ -62,8 +62,9 @@ def main(given: list[str]) -> int:
     if option == SHORT and not names:
         sys.stdout.write(short())
         return Status.DONE
+    text: str | None
     if program:
-        text = subprocess.run([program, "--help"], capture_output=True, text=True, check=True).stdout
+        text = ran(program, "--help").done().decode()
     else:
         text = source.help(crates.TOP)
         if text is None:

@@ -13,6 +13,7 @@ import subprocess
 import tarfile
 
 from streettools.shared.commandline import Parser
+from streettools.shared.program import ran
 from streettools.shared.saying import say
 from streettools.shared.status import Status
 
@@ -69,8 +70,8 @@ def main(given: list[str]) -> int:
     if not prove.is_proved(top) or prove.is_taken(top):
         say("release", "the program isn't proved here: ./arterial prove")
         return Status.NO_PROGRAM
-    version = subprocess.run([record.program_of(top), "--version"], capture_output=True, text=True, check=True)
-    proof = words.folder / f"arterial-{version.stdout.split()[1]}-proof.tgz"
+    version = ran(record.program_of(top), "--version").done().decode().split()[1]
+    proof = words.folder / f"arterial-{version}-proof.tgz"
     files = [proof]
     try:
         proof.write_bytes(archive(top))

@@ -63,7 +63,9 @@ def contents(file: pathlib.Path, wanted: str | None) -> dict[str, bytes]:
             for it in archive:
                 if it.name not in MEMBERS or it.name in members or not it.isreg() or it.size > MOST_MEMBER:
                     raise Refused(f"{file}: not a proof of tools/release (member {it.name!r})")
-                members[it.name] = archive.extractfile(it).read()
+                content = archive.extractfile(it)
+                assert content is not None
+                members[it.name] = content.read()
     except (tarfile.TarError, EOFError, OSError) as fault:
         raise Refused(f"{file}: not a proof of tools/release ({fault})") from None
     if sorted(members) != sorted(MEMBERS):

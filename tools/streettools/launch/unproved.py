@@ -5,25 +5,26 @@ Such a run has limits of the kit: 64 MiB of input, 1 MiB of output, a minute of 
 none.
 """
 
+import io
 import os
 import re
 import signal
 import subprocess
 import sys
 import tempfile
-from typing import BinaryIO
+from typing import IO, cast
 
 from streettools import words
 from streettools.shared.progress import waiting
 from streettools.shared.saying import say
 from streettools.shared.status import Status
 
-from . import crates, due, help, hint, keeping, kit, refused, source
+from . import crates, due, help, hint, keeping, kit, overlap, refused, source
 
 READERS = ("run", "check", "overlaps", "band", "respond")
 """Commands that read standard input."""
 
-NO_TRACE, REFUSED = 5, 2
+NO_TRACE, NO_OVERLAP, REFUSED = 5, 7, 2
 """The statuses of the program if a text isn't a trace, and if a scenario or a field file is invalid."""
 
 MOST_INPUT = (64 << 20) - 1
@@ -51,7 +52,7 @@ class Unfinished(Exception):
         self.status = status
 
 
-def given(stream: BinaryIO, to: BinaryIO) -> None:
+def given(stream: io.BufferedReader, to: IO[bytes]) -> None:
     """Copies standard input to a file, to its end: the kit itself does not wait for it."""
     size = 0
     while part := stream.read1(1 << 20):
@@ -62,7 +63,7 @@ def given(stream: BinaryIO, to: BinaryIO) -> None:
     to.seek(0)
 
 
-def ran(rt: str, arguments: list[str], stdin: BinaryIO, stdout: BinaryIO) -> tuple[int, bytes]:
+def ran(rt: str, arguments: list[str], stdin: IO[bytes], stdout: IO[bytes]) -> tuple[int, bytes]:
     """Runs the program and returns its exit status and what it wrote to standard error; its output goes to a file."""
     command = [rt, "try", "--seconds", str(SECONDS), "--", *arguments]
     folder = crates.TOP / "crates" / crates.PROGRAM
@@ -74,9 +75,9 @@ def ran(rt: str, arguments: list[str], stdin: BinaryIO, stdout: BinaryIO) -> tup
         except BaseException:
             tool.send_signal(signal.SIGTERM)
             raise
-    ended = ENDED.search(said)
-    if ended and int(ended[1]) == tool.returncode:
-        return tool.returncode, said[: OWN.search(said).start()]
+    ended, own = ENDED.search(said), OWN.search(said)
+    if ended and own and int(ended[1]) == tool.returncode:
+        return tool.returncode, said[: own.start()]
     raise Unfinished(*why_not(said))
 
 
@@ -97,7 +98,7 @@ def answer(rt: str, arguments: list[str]) -> int:
     """Prints the program's answer, and returns its status."""
     with tempfile.TemporaryFile() as stdin, tempfile.TemporaryFile() as stdout:
         if arguments[0] in READERS:
-            given(sys.stdin.buffer, stdin)
+            given(cast(io.BufferedReader, sys.stdin.buffer), stdin)
         status, said = ran(rt, arguments, stdin, stdout)
         stdout.seek(0)
         sys.stderr.buffer.write(said)
@@ -107,6 +108,9 @@ def answer(rt: str, arguments: list[str]) -> int:
         elif status == NO_TRACE and arguments[0] == "check":
             stdin.seek(0)
             due.tell("", stdin.read(), said.decode())
+        elif status == NO_OVERLAP and arguments[0] == "overlaps":
+            stdin.seek(0)
+            overlap.show(said.decode(), arguments[1:], stdin)
         elif status == REFUSED:
             stdin.seek(0)
             refused.show(arguments[0], stdin.read(MOST_INPUT), said.decode())

@@ -3,8 +3,10 @@
 The file also tells the partners: phases that were entered only because the rings need them. They are left out.
 """
 
+import pathlib
 from typing import TYPE_CHECKING
 
+from ..plan.suffixes import is_sheet
 from ..shared.fault import Fault
 
 if TYPE_CHECKING:
@@ -58,6 +60,25 @@ class Called:
         listed = ", ".join(map(str, phases[:-1]))
         return f"left out: phases {listed} and {phases[-1]}, placeholder phases that only the rings need"
 
+    def number(self, text: str, cabinets: int) -> int:
+        """Returns the number of the cabinet that a text names, by its number or name."""
+        from ..plan.names import Names  # takes a while
+
+        return (self.names or Names()).number(text, cabinets, "the trace")
+
+    def travel(self, cabinets: list[int]) -> list[int] | None:
+        """Returns the ticks from each of some cabinets to the next, None where they aren't all said, or where the
+        cabinets aren't in the order of the street."""
+        if not self.names or len(cabinets) < 2 or sorted(cabinets) != cabinets:
+            return None
+        found = []
+        for one, other in zip(cabinets, cabinets[1:]):
+            parts = [self.names.intersection(number).travel for number in range(one, other)]
+            if None in parts:
+                return None
+            found.append(round(10 * sum(it for it in parts if it is not None)))
+        return found
+
     def key(self, number: int, phases: set[int]) -> str:
         """Returns the names of those of the phases that have one, and what is left out."""
         named = [f"{phase} {self.phase(number, phase)}" for phase in sorted(phases) if self.phase(number, phase)]
@@ -65,14 +86,26 @@ class Called:
 
 
 def read(path: str) -> Called:
-    """Returns the names that a file has."""
+    """Returns the names that a file has: a names file, or a timing sheet."""
     from ..plan import names  # takes a while
 
+    if is_sheet(path):
+        from ..plan import taking  # takes a while
+
+        return Called(taking.sheet(path).names)
     try:
         with open(path, encoding="utf-8") as file:
             return Called(names.read(file.read()))
     except (names.NoNames, UnicodeDecodeError) as fault:
         raise Fault(f"{path}: {fault}") from None
+
+
+def beside(trace: str | None) -> str | None:
+    """Returns the names file that has the name of a trace (street.names.json for street.trace), if there is one."""
+    if trace in (None, "-"):
+        return None
+    file = pathlib.Path(trace or "").with_suffix(".names.json")
+    return str(file) if file.is_file() else None
 
 
 def fitting(found: Called, path: str, cabinets: int) -> Called:

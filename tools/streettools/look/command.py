@@ -1,10 +1,9 @@
 """The command `./arterial look`: does what its words ask for. What takes a while to import is imported where it is
 needed."""
 
-from ..plan.suffixes import is_sheet
 from ..shared.fault import Fault
 from ..shared.status import Status
-from . import called
+from . import known
 from .reading import read
 from .words import parser
 
@@ -30,30 +29,6 @@ def span(words, reader, usual):
     if words.command != "offset" and end - start > MOST:
         raise Fault(f"at most {MOST} ticks (an hour) fit into this picture")
     return start, end
-
-
-def names_of(words, reader):
-    """Returns the names of things."""
-    if not words.names:
-        return called.Called()
-    found = of_sheet(words, reader) or called.read(words.names)
-    return called.fitting(found, words.names, reader.cabinets)
-
-
-def of_sheet(words, reader):
-    """Returns the names of a sheet, None if the file isn't one. The start and the travel times are taken from it, too,
-    unless the arguments give them."""
-    if not is_sheet(words.names):
-        return None
-    from ..plan import taking  # takes a while
-
-    street = taking.sheet(words.names)
-    if words.command != "events" and getattr(words, "start", 0) is None:
-        words.start = taking.start_of(street)
-    if getattr(words, "travel", 0) is None and not words.cabinets:
-        found = taking.travels_of(street)
-        words.travel = found if found and len(found) == reader.cabinets - 1 else None
-    return called.Called(street.names)
 
 
 def street_of(words, reader):
@@ -150,5 +125,12 @@ def main(arguments):
 
         return draw(arguments)
     words = parser().parse_args(arguments)
-    read(words.trace, not words.no_check, lambda it: DOES[words.command](words, it, names_of(words, it)))
+    read(words.trace, not words.no_check, lambda it: shown(words, it))
     return Status.DONE
+
+
+def shown(words, reader):
+    """Shows a trace as the words ask for."""
+    names = known.names_of(words, reader)
+    known.settle(words, names, reader)
+    DOES[words.command](words, reader, names)

@@ -3,7 +3,7 @@
 import argparse
 import os
 
-from ..shared.clock import daytime, moment, run_ticks
+from ..shared.clock import at, dated, daytime
 from ..shared.commandline import Parser, add_json, add_output
 
 EPILOG = """examples:
@@ -19,12 +19,25 @@ If a proved program exists, `arterial check` also checks the text, and a text th
 Exit status: 0 done, 1 a file can't be read or written, or a package is missing, 2 the arguments or the text are
 invalid, 130 Ctrl-C.
 """
-STARTED = "the time of tick 0, as 06:30:00 or 2026-11-27T06:30:00: the time axis then has the time of day"
+STARTED = (
+    "the time of tick 0, as 06:30:00 or 2026-11-27T06:30:00: the time axis then has the time of day (default with "
+    "names: that of the clock)"
+)
+CABINET = "the cabinet, by its number or by its intersection's name (default: 1)"
+FROM = (
+    "where to begin: seconds, as 90; ticks, as 900t; a time of day, as 07:05 or 07:05:00; without times of day on the "
+    "axis also 1:30, minutes and seconds since the start"
+)
 
 
 def numbers(text):
     """Reads cabinets, as `1,2,3`."""
     return [int(it) for it in text.split(",")]
+
+
+def cabinets(text):
+    """Reads cabinets by their numbers or names, as `1,2,3` or `Oak,Elm`."""
+    return [it.strip() for it in text.split(",") if it.strip()]
 
 
 def phases(text):
@@ -62,9 +75,9 @@ def add_reader(commands, name, text):
     found = commands.add_parser(name, help=text, description=f"{text[:1].upper()}{text[1:]}.",
                                 formatter_class=argparse.HelpFormatter)  # fmt: skip
     found.add_argument("trace", nargs="?", help="the trace's file (default: standard input, as with -)")
-    found.add_argument("--names", metavar="FILE", help="names of cabinets and phases, as `arterial plan scenario` "
-                       "writes them; placeholder phases are left out. A timing sheet also gives start and "
-                       "travel")  # fmt: skip
+    found.add_argument("--names", metavar="FILE", help="names of cabinets and phases: a timing sheet, or what "
+                       "`arterial plan scenario` writes (default: TRACE's name with .names.json); placeholder phases "
+                       "are left out. They also give start and travel")  # fmt: skip
     found.add_argument("--no-check", action="store_true", help="don't let `arterial check` check the text")
     return found
 
@@ -72,19 +85,20 @@ def add_reader(commands, name, text):
 def add_street(found):
     """Adds the options that choose a street."""
     found.add_argument(
-        "--cabinets", type=numbers, metavar="N,N,..", help="the cabinets in the street's order (default: all)"
+        "--cabinets", type=cabinets, metavar="NAME,..", help="the cabinets in the street's order, by number or name "
+        "(default: all)",
     )
     found.add_argument("--travel", type=travel, metavar="S,S,..",
-                       help="seconds from each cabinet to the next, for the bands")  # fmt: skip
+                       help="seconds from each cabinet to the next, for the bands (default: those of the "
+                       "names)")  # fmt: skip
 
 
 def add_picture(commands, name, text):
     """Returns the reader of a command that draws, with the options that these share."""
     found = add_reader(commands, name, text)
     add_output(found, "the picture: .svg, .png or .pdf", type=picture, required=True)
-    found.add_argument("--from", dest="first", type=run_ticks, default=0, metavar="TIME",
-                       help="where to begin: seconds, as 90; or 1:30, or ticks, as 900t (default: 0)")  # fmt: skip
-    found.add_argument("--to", dest="last", type=run_ticks, metavar="TIME", help="where to end, in the same forms")
+    found.add_argument("--from", dest="first", type=at, default=0, metavar="TIME", help=FROM + " (default: 0)")
+    found.add_argument("--to", dest="last", type=at, metavar="TIME", help="where to end, in the same forms")
     found.add_argument("--start", type=daytime, metavar="TIME", help=STARTED)
     return found
 
@@ -103,7 +117,7 @@ def add_rings(commands):
         "rings",
         "both rings of a cabinet: greens, clearances, walks, barriers, modes (180 s if --to isn't given)",
     )
-    found.add_argument("--cabinet", type=int, default=1, metavar="N", help="the cabinet (default: 1)")
+    found.add_argument("--cabinet", metavar="NAME", help=CABINET)
 
 
 def add_coordination(commands):
@@ -123,7 +137,7 @@ def add_coordination(commands):
 def add_offset(commands):
     """Adds the command that draws how an offset comes about."""
     found = add_picture(commands, "offset", "how a cabinet brings its offset about, and what disturbs it")
-    found.add_argument("--cabinet", type=int, default=1, metavar="N", help="the cabinet (default: 1)")
+    found.add_argument("--cabinet", metavar="NAME", help=CABINET)
 
 
 def add_page(commands):
@@ -150,8 +164,9 @@ def add_report(commands):
 def add_events(commands):
     """Adds the command that writes an event log."""
     found = add_text(commands, "events", "the event log in the Indiana hi-resolution codes, as CSV (docs/EVENTS.md)")
-    found.add_argument("--start", type=moment, required=True, metavar="TIME",
-                       help="the time of tick 0, as 2026-11-27T06:00:00")  # fmt: skip
+    found.add_argument("--start", type=dated, required=True, metavar="TIME",
+                       help="the time of tick 0, as 2026-11-27T06:00:00; or the date, as 2026-11-27, with the time of "
+                       "the run's clock")  # fmt: skip
 
 
 COMMANDS = (add_rings, add_coordination, add_offset, add_page, add_report, add_events)

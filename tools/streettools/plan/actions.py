@@ -7,36 +7,20 @@ import sys
 from dataclasses import replace
 from typing import Any
 
+from ..cosim.queues import said
 from ..shared import files
+from ..shared.given import Unreadable, Wrong, content_of
 from ..shared.progress import bar
 from ..shared.saying import say
 from ..shared.status import Status
 from ..shared.tables import Tables
-from . import (
-    addresses,
-    check,
-    days,
-    explain,
-    jsontext,
-    live,
-    loads,
-    names,
-    sending,
-    sources,
-    toml_text,
-    utdf_in,
-    utdf_out,
-    utdf_text,
-    volumes_text,
-    walk,
-    writing,
-)
+from . import check, days, explain, jsontext, names, sources, taking, toml_text, writing
 from ..shared.cells import cells_between, tables_of
+from .event_times import Timed
 from .findings import Level, counted
-from .given import Unreadable
 from .reading import Street, street_of
 from .sources import Source
-from .taking import Refused, taken
+from .taking import Refused
 
 BOOK, PICTURES = ".xlsx", (".svg", ".png", ".pdf")
 
@@ -71,7 +55,7 @@ def write_sheet(path: str | None, sheet: dict[str, Any]) -> None:
 
 def to_day(words: argparse.Namespace) -> int:
     """Writes the scenario of a sheet on a day."""
-    street = taken(words.file, words.names).street
+    street = taking.sheet(words.file, words.names)
     day = days.day_of(words.date)
     plan = days.plan_of(street.day_plans, day)
     street.on(plan)
@@ -82,7 +66,7 @@ def to_day(words: argparse.Namespace) -> int:
 
 def to_scenario(words: argparse.Namespace) -> int:
     """Writes the scenario, or the field file, of a sheet; and its names."""
-    return write_street(words, taken(words.file, words.names).street)
+    return write_street(words, taking.sheet(words.file, words.names))
 
 
 def write_street(words: argparse.Namespace, street: Street) -> int:
@@ -107,7 +91,7 @@ def write_street(words: argparse.Namespace, street: Street) -> int:
 
 def to_sheet(words: argparse.Namespace) -> int:
     """Writes the sheet of a scenario."""
-    write_sheet(words.output, writing.sheet_of(taken(words.file, words.names).street))
+    write_sheet(words.output, writing.sheet_of(taking.sheet(words.file, words.names)))
     return Status.DONE
 
 
@@ -133,7 +117,8 @@ def do_fix(words: argparse.Namespace, source: Source, street: Street) -> None:
 
     changes: list[tuple[int, fix.Change]] = []
     for number, cabinet in enumerate(street.scenario["cabinets"], 1):
-        tables, known, made = tables_of(cabinet), street.names.intersection(number), []
+        tables, known = tables_of(cabinet), street.names.intersection(number)
+        made: list[fix.Change] = []
         for line in fix.mend(tables, known, made):
             print(f"{street.names.called(number)}: fix: {line}")
         changes += [(number, it) for it in made]
@@ -176,12 +161,11 @@ def draw(words: argparse.Namespace) -> int:
     if source.errors or source.street is None:
         raise Refused("\n".join(f"{words.file}: {it}" for it in source.errors))
     cabinets = source.street.scenario["cabinets"]
-    if words.intersection > len(cabinets):
-        raise Refused(f"{words.file}: intersection {words.intersection} doesn't exist")
+    number = source.street.names.number(words.intersection, len(cabinets), words.file)
     if pathlib.Path(words.output).suffix not in PICTURES:
         raise Refused(f"{words.output}: a picture's name ends in " + ", ".join(PICTURES))
-    known, called = source.street.names.intersection(words.intersection), source.street.names.called(words.intersection)
-    picture.write(tables_of(cabinets[words.intersection - 1]), known, called, words.pattern, words.output)
+    known, called = source.street.names.intersection(number), source.street.names.called(number)
+    picture.write(tables_of(cabinets[number - 1]), known, called, words.pattern, words.output)
     return Status.DONE
 
 
@@ -207,11 +191,13 @@ def do_explain(words: argparse.Namespace) -> int:
 
 def utdf_text_of(path: str) -> str:
     """Returns the text of a UTDF file; other octets than those of UTF-8, as in names, are replaced."""
-    return jsontext.decoded(sources.content_of(path).removeprefix(b"\xef\xbb\xbf"), replaced=True)
+    return jsontext.decoded(content_of(path).removeprefix(b"\xef\xbb\xbf"), replaced=True)
 
 
 def from_utdf(words: argparse.Namespace) -> int:
     """Writes the sheet of UTDF files, and their volumes."""
+    from . import utdf_in, utdf_text, volumes_text  # here, since they take a while
+
     found = utdf_in.imported(utdf_text.read_all((path, utdf_text_of(path)) for path in words.files))
     street = street_of(found.sheet)
     tell(found.notes + street.notes)
@@ -227,10 +213,12 @@ def from_utdf(words: argparse.Namespace) -> int:
 
 def from_walk(words: argparse.Namespace) -> int:
     """Writes the sheet of controllers that were walked over."""
+    from . import walk  # here, since it takes a while
+
     walks = []
     for path in words.files:
         try:
-            walks.append(walk.read(jsontext.decoded(sources.content_of(path), replaced=True)))
+            walks.append(walk.read(jsontext.decoded(content_of(path), replaced=True)))
         except Unreadable as unreadable:
             raise Unreadable([replace(it, where=path) for it in unreadable.faults]) from None
     street = walk.street_of(walks, [pathlib.Path(path).stem for path in words.files])
@@ -241,6 +229,8 @@ def from_walk(words: argparse.Namespace) -> int:
 
 def from_live(words: argparse.Namespace) -> int:
     """Writes the sheet of a controller that answers."""
+    from . import live, walk  # here, since they take a while
+
     host, _, port = words.host.rpartition(":") if ":" in words.host else (words.host, "", "161")
     if not port.isdecimal() or not 0 < int(port) < 65_536:
         raise Refused(f"{words.host}: a host and a port are wanted, as 127.0.0.1:10161")
@@ -259,8 +249,12 @@ def from_live(words: argparse.Namespace) -> int:
 
 def to_utdf(words: argparse.Namespace) -> int:
     """Writes a street as UTDF, with its volumes."""
-    street = taken(words.file, words.names).street
-    found, notes = utdf_out.written(street, words.pattern, volumes_text.read(words.volumes) if words.volumes else None)
+    from . import utdf_out, volumes_text  # here, since they take a while
+
+    street = taking.sheet(words.file, words.names)
+    volumes = volumes_text.read(words.volumes) if words.volumes else None
+    volumes = said.with_travels(volumes, said.said_in(street.names)) if volumes else None
+    found, notes = utdf_out.written(street, words.pattern, volumes)
     tell(notes)
     write(words.output, found)
     return Status.DONE
@@ -268,10 +262,19 @@ def to_utdf(words: argparse.Namespace) -> int:
 
 def do_loads(words: argparse.Namespace) -> int:
     """Writes the downloads from one plan to another as a scenario's loads; or sends them, or says what it would."""
-    old, new = (taken(path).street for path in (words.old, words.new))
+    from . import loads  # here, since it takes a while
+
+    old, new = taking.sheet(words.old), taking.sheet(words.new)
+    count = len(new.scenario["cabinets"])
+    if words.at is not None:
+        try:
+            words.round = Timed(new.scenario, []).round(round(10 * words.at))
+        except Wrong as wrong:
+            raise Refused(str(wrong)) from None
     found = loads.between(old, new, words.round, words.flash)
     if words.only:
-        found = [it for it in found if it["cabinet"] in words.only]
+        only = [new.names.number(it, count, words.new) for it in words.only]
+        found = [it for it in found if it["cabinet"] in only]
     if words.flash:
         say("plan", "cabinets accept these downloads only in flash (pattern 255)")
     if words.sets:
@@ -284,6 +287,8 @@ def do_loads(words: argparse.Namespace) -> int:
 
 def do_sets(words: argparse.Namespace, old: Street, new: Street, found: list[dict[str, Any]]) -> int:
     """Says what devices get, and sends it if that is asked for."""
+    from . import addresses, live, sending  # here, since they take a while
+
     loads_here = sending.loads_of(old, new, found, addresses.places_of(words.sets, len(new.scenario["cabinets"])))
     lines = [line for it in loads_here for line in it.lines()]
     if not loads_here:

@@ -4,8 +4,9 @@ way to the next intersection takes."""
 import json
 from collections.abc import Iterator
 
-from ..shared.program import NoProgram, found, ran
+from ..shared.program import NoProgram, answering, ran
 from ..shared.cells import tables_of
+from ..shared.tables import Tables
 from .findings import Finding, Level, Rank
 from .reading import Street
 
@@ -18,22 +19,56 @@ def questions(street: Street) -> Iterator[tuple[int, int, list[int], list[int]]]
     cabinets = street.scenario["cabinets"]
     for section in range(1, 9):
         numbers = [number for number, it in enumerate(cabinets, 1) if it.get("section", 1) == section]
-        travel = [street.names.intersection(number).travel for number in numbers[:-1]]
-        if len(numbers) < 2 or any(it is None for it in travel):
+        told = [street.names.intersection(number).travel for number in numbers[:-1]]
+        travel = [it for it in told if it is not None]
+        if len(numbers) < 2 or len(travel) < len(told):
             continue
         tables = [tables_of(cabinets[number - 1]) for number in numbers]
         for pattern in sorted(set.intersection(*(set(it.patterns()) for it in tables))):
-            if len({it.pattern(pattern, 2) for it in tables}) == 1:
+            if len(cycles(tables, pattern)) == 1:
                 yield section, pattern, numbers, [round(10 * it) for it in travel]
 
 
+def cycles(tables: list[Tables], pattern: int) -> dict[int, list[int]]:
+    """Returns the cycles of a pattern, in seconds, each with the places of the tables that have it."""
+    found: dict[int, list[int]] = {}
+    for place, it in enumerate(tables):
+        found.setdefault(it.pattern(pattern, 2), []).append(place)
+    return found
+
+
+def unequal(street: Street) -> Iterator[Finding]:
+    """Yields a line for each pattern whose cycles differ, as where an intersection runs half the cycle: its bands
+    aren't computed."""
+    cabinets = street.scenario["cabinets"]
+    for section in range(1, 9):
+        numbers = [number for number, it in enumerate(cabinets, 1) if it.get("section", 1) == section]
+        if len(numbers) < 2 or any(street.names.intersection(it).travel is None for it in numbers[:-1]):
+            continue
+        tables = [tables_of(cabinets[number - 1]) for number in numbers]
+        for pattern in sorted(set.intersection(*(set(it.patterns()) for it in tables))):
+            known = cycles(tables, pattern)
+            if len(known) > 1:
+                most = max(known, key=lambda it: (len(known[it]), it))
+                others = [
+                    f"{it} s at {', '.join(street.names.called(numbers[place]) for place in known[it])}"
+                    for it in sorted(known) if it != most
+                ]  # fmt: skip
+                words = (
+                    f"the bands of pattern {pattern} are not computed, since its cycles differ: {most} s, and "
+                    f"{'; '.join(others)}. `./look coordination` draws the bands of a run"
+                )
+                yield Finding(Level.NOTE, street.names.sections.get(section, f"section {section}"), words)
+
+
 def findings(street: Street, path: str | None) -> Iterator[Finding]:
-    """Yields the plans whose offsets leave no band, one way or both."""
+    """Yields the plans whose offsets leave no band, one way or both, and those whose bands aren't computed."""
+    yield from unequal(street)
     asked = list(questions(street))
     if not asked:
         return
     try:
-        program = found(path)
+        program = answering(path, lambda line: None)
     except NoProgram as why:
         yield Finding(Level.NOTE, "", f"bands are not looked at: {why}")
         return

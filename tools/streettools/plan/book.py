@@ -11,7 +11,7 @@ import openpyxl
 from openpyxl.styles import Alignment, Font, PatternFill
 from openpyxl.utils.exceptions import IllegalCharacterError
 
-from .given import Fault, Unreadable
+from ..shared.given import Defect, Unreadable
 
 STREET, FIRST = "Street", "Intersection"
 LISTS = ("inputs", "loads", "priority", "frames", "faults", "pulses")
@@ -37,7 +37,7 @@ def flat(row: dict[str, Any], front: str = "") -> Iterator[tuple[str, object]]:
             yield f"{front}{name}", value
 
 
-def shown(name: str, value: object) -> object:
+def shown(name: str, value: Any) -> object:
     """Returns what stands in a page's cell."""
     if name in PHASE_LISTS:
         return " ".join(map(str, value)) or "none"
@@ -54,7 +54,7 @@ def set_cell(page, row: int, column: int, value: object, font: Font | None = Non
     try:
         cell.value = value
     except IllegalCharacterError:
-        raise Unreadable([Fault(page.title, f"{value!r} has characters that a workbook can't hold")]) from None
+        raise Unreadable([Defect(page.title, f"{value!r} has characters that a workbook can't hold")]) from None
     if isinstance(value, str):
         cell.data_type = "s"
     if isinstance(value, datetime.time):

@@ -15,7 +15,7 @@ import openpyxl
 from typing import Any
 
 from .book import BLOCKS, DAY_LISTS, DAY_PLAN, FIRST, LISTS, PHASE_LISTS, STREET, WORD_LISTS
-from .given import Fault, Unreadable
+from ..shared.given import Defect, Unreadable
 
 TITLES = {title: name for name, title in BLOCKS.items()}
 MOST_OCTETS = 64 * 2**20
@@ -38,7 +38,7 @@ def opened(content: bytes) -> openpyxl.Workbook:
     """Returns a workbook that is opened for reading."""
     with zipfile.ZipFile(io.BytesIO(content)) as packed:
         if sum(it.file_size for it in packed.infolist()) > MOST_OCTETS:
-            raise Unreadable([Fault("", f"the workbook has more than {MOST_OCTETS >> 20} MiB when it is unpacked")])
+            raise Unreadable([Defect("", f"the workbook has more than {MOST_OCTETS >> 20} MiB when it is unpacked")])
     return openpyxl.load_workbook(io.BytesIO(content), read_only=True, data_only=True, keep_links=False)
 
 
@@ -48,7 +48,7 @@ def pages(content: bytes) -> Iterator[Page]:
     try:
         book, left = opened(content), MOST_ROWS
         if len(book.worksheets) > MOST_PAGES:
-            raise Unreadable([Fault("", f"the workbook has more than {MOST_PAGES} pages")])
+            raise Unreadable([Defect("", f"the workbook has more than {MOST_PAGES} pages")])
         for sheet in book.worksheets:
             page, count = page_of(sheet, left)
             left -= count
@@ -56,7 +56,7 @@ def pages(content: bytes) -> Iterator[Page]:
     except (Unreadable, MemoryError):
         raise
     except Exception:
-        raise Unreadable([Fault("", "no workbook (.xlsx)")]) from None
+        raise Unreadable([Defect("", "no workbook (.xlsx)")]) from None
 
 
 def page_of(sheet, most: int) -> tuple[Page, int]:
@@ -95,7 +95,7 @@ def read(content: bytes) -> tuple[dict, list[str]]:
             read_street(rows, sheet)
         elif rows:
             words = f'page {page.title!r} is not of a sheet: its first cell is neither "{STREET}" nor "{FIRST}"'
-            raise Unreadable([Fault("", words)])
+            raise Unreadable([Defect("", words)])
     return sheet, notes
 
 
@@ -104,7 +104,7 @@ def from_json(value: object, name: str) -> object:
     try:
         return json.loads(str(value))
     except ValueError:
-        raise Unreadable([Fault(name, f"{str(value)[:40]!r} is not valid JSON")]) from None
+        raise Unreadable([Defect(name, f"{str(value)[:40]!r} is not valid JSON")]) from None
 
 
 def read_value(name: str, value: object) -> object:

@@ -32,7 +32,7 @@ def place(cell: Cell) -> str:
             return f"sequence {number}, ring {ring}"
         case ("preempt", number, column):
             return f"preempt {number}, {field_of(fields.PREEMPT_FIELDS, column)[0]}"
-    raise AssertionError(f"{cell} is no cell")
+    raise AssertionError(f"{cell} is not a cell")
 
 
 def fits(cell: Cell, value: Value) -> bool:

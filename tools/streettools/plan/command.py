@@ -2,6 +2,7 @@
 
 import argparse
 
+from ..shared.clock import daytime
 from ..shared.commandline import Parser, add_json, add_output, add_program, number
 from . import actions
 
@@ -98,7 +99,8 @@ def add_products(parts) -> None:
     add_file(part)
     add_output(part, "the picture: .svg, .png or .pdf", metavar="OUTPUT", required=True)
     part.add_argument(
-        "--intersection", type=number(1, 64), default=1, metavar="N", help="which intersection of the file (default: 1)"
+        "--intersection", default="1", metavar="NAME",
+        help="which intersection of the file, by number or name (default: 1)",
     )
     part.add_argument(
         "--pattern", type=number(0, 48), default=1, metavar="N", help="which pattern; 0 is free operation (default: 1)"
@@ -112,14 +114,19 @@ def add_products(parts) -> None:
     )
     part.add_argument("old", metavar="OLD", help=FILE)
     part.add_argument("new", metavar="NEW", help="the same")
-    part.add_argument(
+    when = part.add_mutually_exclusive_group()
+    when.add_argument(
         "--round", type=number(1, 86_400), default=1, help="the round in which they are sent (default: 1)"
+    )
+    when.add_argument(
+        "--at", type=daytime, metavar="TIME",
+        help="the time of day at which they are sent, as 07:15:00",
     )
     part.add_argument(
         "--flash", action="store_true", help="the cabinets are in flash then, so rings and enabled phases may change"
     )
     part.add_argument(
-        "--only", type=number(1, 64), action="append", metavar="N", help="only this intersection; may be repeated"
+        "--only", action="append", metavar="NAME", help="only this intersection, by number or name; may be repeated"
     )
     add_sending(part)
     add_output(part, OUTPUT, metavar="OUTPUT")

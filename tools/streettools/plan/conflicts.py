@@ -10,7 +10,7 @@ from itertools import combinations
 
 from ..shared.cells import SEQUENCES, value
 from ..shared.tables import ALL, Tables
-from .fields import Wrong
+from ..shared.given import Wrong
 from .findings import Finding, Level, Rank, warn
 from .layout import concurrent, sides_by_phase
 from .names import Intersection, Names

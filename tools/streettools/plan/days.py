@@ -8,8 +8,9 @@ from dataclasses import dataclass
 from typing import Any
 
 from ..shared.fault import Fault
-from .fields import Wrong, one_line
-from .given import Given, command_word, number
+from ..shared.given import Given, Wrong
+from .fields import one_line
+from .readers import command_word, number
 from ..shared.clock import day_time
 
 WEEKDAYS = ("monday", "tuesday", "wednesday", "thursday", "friday", "saturday", "sunday")
@@ -72,7 +73,7 @@ def weekdays(said: object) -> tuple[int, ...]:
         return tuple(sorted((first + at) % 7 for at in range((last - first) % 7 + 1)))
     words = [said] if isinstance(said, str) else said
     if not isinstance(words, list):
-        raise Wrong(f'{said!r} is no list of days, as ["saturday", "sunday"], or "monday to friday"')
+        raise Wrong(f'{said!r} is not a list of days, as ["saturday", "sunday"], or "monday to friday"')
     found_days = [weekday(it) for it in words]
     if len(set(found_days)) < len(found_days):
         raise Wrong("a day is said twice")
@@ -82,7 +83,7 @@ def weekdays(said: object) -> tuple[int, ...]:
 def months(said: object) -> tuple[int, ...]:
     """Returns a list of months."""
     if not isinstance(said, list) or not said:
-        raise Wrong(f"{said!r} is no list of months, as [9, 10, 11]")
+        raise Wrong(f"{said!r} is not a list of months, as [9, 10, 11]")
     return tuple(sorted({number(1, 12)(it) for it in said}))
 
 
@@ -100,13 +101,13 @@ def date(said: object) -> str:
             return datetime.date.fromisoformat(said).isoformat()
     except ValueError:
         pass
-    raise Wrong(f'{said!r} is no date, as 2026-12-24, or "12-24" for every year')
+    raise Wrong(f'{said!r} is not a date, as 2026-12-24, or "12-24" for every year')
 
 
 def dates(said: object) -> tuple[str, ...]:
     """Returns a list of dates."""
     if not isinstance(said, list):
-        raise Wrong(f"{said!r} is no list of dates, as [2026-12-24]")
+        raise Wrong(f"{said!r} is not a list of dates, as [2026-12-24]")
     found = [date(it) for it in said]
     if len(set(found)) < len(found):
         raise Wrong("a date is said twice")
@@ -118,14 +119,14 @@ def read(top: Given, schedule_of: Callable[[Given], Schedule | None]) -> list[Da
     found = []
     for place, it in top.tables("day_plan"):
         it.allow(NAMES)
-        name = it.take("name", one_line, "") or f"day plan {place}"
-        it.where = f"day_plan {place} ({name})"
-        days, of_dates = it.take("days", weekdays, ()), it.take("dates", dates, ())
+        name = it.read("name", one_line, "") or f"day plan {place}"
+        it.place = f"day_plan {place} ({name})"
+        days, of_dates = it.read("days", weekdays, ()), it.read("dates", dates, ())
         if "days" not in it.table and "dates" not in it.table:
             it.fault("say on which days it holds: days, dates")
         if "schedule" not in it.table:
             it.fault("is missing", "schedule")
-        found.append(DayPlan(name, days, it.take("months", months, tuple(MONTHS)), of_dates, schedule_of(it) or []))
+        found.append(DayPlan(name, days, it.read("months", months, tuple(MONTHS)), of_dates, schedule_of(it) or []))
     if found and not top.faults:
         for words in (*same_names(found), *clashes(found), *gaps(found)):
             top.fault(words, "day_plan")
@@ -182,4 +183,4 @@ def day_of(text: str) -> datetime.date:
     try:
         return datetime.date.fromisoformat(text)
     except ValueError:
-        raise Fault(f"{text!r} is no date, as 2026-12-24") from None
+        raise Fault(f"{text!r} is not a date, as 2026-12-24") from None

@@ -3,11 +3,13 @@
 A side with no phase in a ring (`-`) gets a partner there: a phase that the rings need and that nobody calls.
 """
 
+from collections.abc import Collection
 from dataclasses import dataclass
 
 from ..shared.tables import ALL, LISTS, Tables, standard
 from ..shared.cells import put, unset, value
-from .fields import ENABLED, Wrong, with_bits
+from ..shared.given import Wrong
+from .fields import ENABLED, with_bits
 from .layout import sides_by_phase
 
 TIMES = (2, 3, 4, 5, 6, 8, 9, 10, 20, 21)
@@ -27,6 +29,11 @@ class Drawing:
     def phases(self) -> list[int]:
         """Returns all phases that are drawn, in rising order."""
         return sorted({*self.ring(1), *self.ring(2)})
+
+    def without(self, partners: Collection[int]) -> "Drawing":
+        """Returns the drawing without some phases."""
+        left = [[tuple(it for it in ring if it not in partners) for ring in side] for side in self.sides]
+        return Drawing(tuple((one, other) for one, other in left))
 
     def lines(self) -> list[str]:
         """Returns what a sheet says."""
@@ -51,7 +58,7 @@ def read(given: object) -> Drawing:
     """Returns the drawing that a sheet has."""
     if not isinstance(given, list) or not 1 <= len(given) <= 2 or not all(isinstance(it, str) for it in given):
         raise Wrong('rings are one or two lines, as ["1 2 | 3 4", "5 6 | 7 8"]')
-    rings = [[phases_in(part) for part in line.split("|")] for line in given]
+    rings: list[list[tuple[int, ...]]] = [[phases_in(part) for part in line.split("|")] for line in given]
     if len(rings) == 1:
         rings.append([()] * len(rings[0]))
     if len(rings[0]) != len(rings[1]):
@@ -59,7 +66,7 @@ def read(given: object) -> Drawing:
             f"ring 1 has {len(rings[0]) - 1} barriers and ring 2 {len(rings[1]) - 1}: both cross each barrier "
             "together; draw - where a ring has no phase"
         )
-    drawing = Drawing(tuple(zip(*rings, strict=True)))
+    drawing = Drawing(tuple(zip(rings[0], rings[1], strict=True)))
     drawn = [*drawing.ring(1), *drawing.ring(2)]
     for phase in drawn:
         if drawn.count(phase) > 1:
@@ -83,7 +90,9 @@ def free_number(near: tuple[int, ...], taken: set[int]) -> int:
 def with_partners(drawing: Drawing) -> tuple[Drawing, dict[int, int]]:
     """Returns the drawing with partners where a ring has no phase on a side; and for each partner the phase that it is
     like."""
-    taken, partners, sides = set(drawing.phases()), {}, []
+    taken = set(drawing.phases())
+    partners: dict[int, int] = {}
+    sides: list[Side] = []
     for side in drawing.sides:
         rings = list(side)
         for ring in (0, 1):
@@ -93,7 +102,7 @@ def with_partners(drawing: Drawing) -> tuple[Drawing, dict[int, int]]:
                 taken.add(number)
                 partners[number] = other[-1]
                 rings[ring] = (number,)
-        sides.append(tuple(rings))
+        sides.append((rings[0], rings[1]))
     return Drawing(tuple(sides)), partners
 
 
@@ -133,14 +142,16 @@ def of_tables(tables: Tables) -> Drawing | None:
     rings = [value(tables, ("sequence", 1, ring)) for ring in (1, 2)]
     if not enabled or sorted((*rings[0], *rings[1])) != sorted(enabled):
         return None
-    sides, seen, side_of = [], [], sides_by_phase(tables)
+    side_of = sides_by_phase(tables)
+    sides: list[Side] = []
+    seen: list[frozenset[int]] = []
     for phase in (*rings[0], *rings[1]):
         side = side_of[phase]
         if side not in seen:
             if any(side & other for other in seen):
                 return None
             seen.append(side)
-            sides.append(tuple(tuple(it for it in ring if it in side) for ring in rings))
+            sides.append((tuple(it for it in rings[0] if it in side), tuple(it for it in rings[1] if it in side)))
     drawing = Drawing(tuple(sides))
     if any(drawing.ring(ring) != rings[ring - 1] for ring in (1, 2)):
         return None
@@ -175,7 +186,7 @@ def read_order(given: object) -> list[tuple]:
     rings = []
     for line in given:
         words = [word for word in line.replace("|", " ").split() if word != "-"]
-        if any(not word.isdecimal() or int(word) > 255 for word in words) or len(words) > 16:
+        if any(not word.isdecimal() or len(word) > 3 or int(word) > 255 for word in words) or len(words) > 16:
             raise Wrong(f"{line!r} is not an order of at most 16 phases")
         rings.append(tuple(map(int, words)))
     return rings

@@ -156,7 +156,7 @@ def by_table(words: dict[int, str]) -> Callable:
     return explained
 
 
-LINES = (
+LINES: tuple[tuple[str, Callable[[Source, str, re.Match[str]], list[str]]], ...] = (
     (r"scenario: cabinet (\d+) breaks rule (\d+) at row (\d+)", broken_rule),
     (r"scenario: (?:not JSON|field .*|limit .*)", lambda source, line, _: fault_of_value(source, line)),
     (r"L (\d+) (\d+) refused (\d+) (\d+)", refused_load),

@@ -10,10 +10,7 @@ from dataclasses import dataclass, field
 from typing import Any, TypeGuard
 
 from ..shared.cells import BYTE, PHASE, PREEMPT, UNIT, Lists, Numbers
-
-
-class Wrong(Exception):
-    """What a sheet says can't stand there, in words."""
+from ..shared.given import Wrong
 
 
 class Unit(enum.Enum):
@@ -158,8 +155,9 @@ def count(column: int, of: dict[int, Any]) -> Time:
     return Time(column, Unit.COUNT, of[column])
 
 
+Field = Time | Word | Phases
 STARTUPS = {1: "other", 2: "red", 3: "green with walk", 4: "green", 5: "yellow", 6: "red clearance"}
-PHASE_FIELDS = {
+PHASE_FIELDS: dict[str, Field] = {
     "min_green": seconds(4, PHASE), "passage": tenths(5, PHASE), "max_green": seconds(6, PHASE),
     "yellow": tenths(8, PHASE),
     "red_clear": tenths(9, PHASE), "red_revert": tenths(10, PHASE), "walk": seconds(2, PHASE),
@@ -173,7 +171,7 @@ PHASE_FIELDS = {
 }  # fmt: skip
 """What a sheet may say of a phase, beside its options."""
 
-UNIT_FIELDS = {
+UNIT_FIELDS: dict[str, Field] = {
     "correction": Word(1, {1: "other", 2: "dwell", 3: "shortway", 4: "add only"}),
     "dwell_limit": tenths(2, UNIT), "add_limit": tenths(3, UNIT), "skip_limit": tenths(4, UNIT),
     "extension_limit": tenths(6, UNIT),
@@ -189,7 +187,7 @@ SPLIT_MODES = Word(
     4, {1: "other", 2: "none", 3: "minimum", 4: "maximum", 5: "pedestrian", 6: "maximum and pedestrian", 7: "omitted"}
 )
 SPLIT_TIME = Time(3, Unit.SECONDS, BYTE)
-PREEMPT_FIELDS = {
+PREEMPT_FIELDS: dict[str, Field] = {
     "delay": seconds(4, PREEMPT), "min_duration": seconds(5, PREEMPT), "max_presence": seconds(11, PREEMPT),
     "min_green": seconds(6, PREEMPT), "min_walk": seconds(7, PREEMPT), "ped_clear": seconds(8, PREEMPT),
     "track_green": seconds(9, PREEMPT), "dwell_green": seconds(10, PREEMPT), "track": Phases(12), "dwell": Phases(13),

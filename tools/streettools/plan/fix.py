@@ -109,11 +109,16 @@ class Ring:
     @cached_property
     def pair_cost(self) -> np.ndarray:
         """What each time of the coordinated phase costs."""
-        return self.cost(self.phases[self.at], 0)
+        return self.cost(self.coordinated(), 0)
+
+    def coordinated(self) -> int:
+        """Returns the coordinated phase."""
+        assert self.at is not None
+        return self.phases[self.at]
 
     def need(self, hold: int) -> int:
         """Returns how many seconds from local zero to the end of the coordinated phase there must be."""
-        return ceiling(hold + self.laid.tables.clearance(self.phases[self.at]))
+        return ceiling(hold + self.laid.tables.clearance(self.coordinated()))
 
     def by_end(self, zero: int, hold: int) -> np.ndarray:
         """Returns the least cost of all up to the coordinated phase by where it ends, with its start at local zero or
@@ -167,7 +172,7 @@ class Side:
             least = ceiling(self.hold + self.rings[0].clearance) + zero
             if least >= len(best):
                 break
-            costs = sum(added(ring.by_end(zero, self.hold), ring.tail[0]) for ring in self.rings)
+            costs = np.sum([added(ring.by_end(zero, self.hold), ring.tail[0]) for ring in self.rings], axis=0)
             costs[:least] = NEVER
             self.zeros = np.where(costs < best, zero, self.zeros)
             best = np.minimum(best, costs)

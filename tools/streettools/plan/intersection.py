@@ -1,13 +1,14 @@
 """An intersection of a sheet as a cabinet of a scenario: the standard table, the rings as drawn, and what the sheet
 says besides."""
 
+import functools
 from typing import Any
 
+from ..shared.given import Given
 from ..shared.tables import Tables
-from . import conflicts, drawing, fields, given, names
+from . import conflicts, drawing, fields, names, readers
 from ..shared.cells import cells_between, put, value
 from .fields import one_line
-from .given import Given
 from .pattern_reading import SPLIT_NAMES, read_pattern, read_split
 from .started import Read, started, word_of
 
@@ -32,7 +33,7 @@ def read_phase(it: Given, number: int, found: Read) -> None:
     """Takes up the row of a phase."""
     it.allow((*ABOUT, *fields.PHASE_FIELDS, *fields.OPTIONS))
     for name, each in fields.PHASE_FIELDS.items():
-        new = it.take(name, each.read)
+        new = it.read(name, each.read)
         if new is not None:
             put(found.tables, ("phase", number, each.column), new)
     cell = ("phase", number, 21)
@@ -41,12 +42,12 @@ def read_phase(it: Given, number: int, found: Read) -> None:
         put(
             found.tables,
             cell,
-            it.take(name, lambda said, name=name, options=options: fields.read_option(name, said, options), options),
+            it.read(name, functools.partial(fields.read_option, name, options=options), options),
         )
     about = names.Phase(
-        name=it.take("name", one_line, ""), kind=it.take("kind", word_of("vehicle", "pedestrian"), "vehicle"),
-        speed=it.take("speed", given.measure), grade=it.take("grade", given.percent),
-        crossing=it.take("crossing", given.measure), width=it.take("width", given.measure),
+        name=it.read("name", one_line, ""), kind=it.read("kind", word_of("vehicle", "pedestrian"), "vehicle"),
+        speed=it.read("speed", readers.measure), grade=it.read("grade", readers.percent),
+        crossing=it.read("crossing", readers.measure), width=it.read("width", readers.measure),
     )  # fmt: skip
     if about != names.Phase():
         found.names.phases[number] = about
@@ -63,25 +64,25 @@ def fill_partners(found: Read) -> None:
 
 def read_rows(it: Given, found: Read) -> None:
     """Takes up all rows of the tables."""
-    for number, row in it.each("phase", 16):
+    for number, row in it.numbered("phase", 16):
         if number in found.partners:
             row.fault("this number is used for the placeholder phase that the rings need: draw it, or leave it out")
         read_phase(row, number, found)
     fill_partners(found)
     used: dict[int, str] = {}
-    for number, row in it.each("split", 32):
+    for number, row in it.numbered("split", 32):
         row.allow(SPLIT_NAMES)
         used[number] = f"split {number}"
         read_split(row, number, found, None, f"split {number}")
-    for number, row in it.each("pattern", 48):
+    for number, row in it.numbered("pattern", 48):
         read_pattern(row, number, found, used)
-    for number, row in it.each("preempt", 8):
+    for number, row in it.numbered("preempt", 8):
         row.allow(("name", *fields.PREEMPT_FIELDS))
         for name, each in fields.PREEMPT_FIELDS.items():
-            new = row.take(name, each.read)
+            new = row.read(name, each.read)
             if new is not None:
                 put(found.tables, ("preempt", number, each.column), new)
-        called = row.take("name", one_line, "")
+        called = row.read("name", one_line, "")
         if called:
             found.names.preempts[number] = called
 
@@ -91,7 +92,7 @@ def read_sequences(it: Given, found: Read) -> None:
     below = it.below("sequence")
     below.allow(map(str, range(1, 17)))
     for number in range(1, 17):
-        rings = below.take(str(number), drawing.read_order)
+        rings = below.read(str(number), drawing.read_order)
         if rings is not None:
             for ring, order in enumerate(rings, 1):
                 put(found.tables, ("sequence", number, ring), with_partners_in(order, ring, rings, found))
@@ -116,26 +117,26 @@ def read(it: Given) -> tuple[Read, dict]:
     """Returns an intersection, and the cabinet that it is in a scenario."""
     it.allow(NAMES, HOMES)
     found = started(it)
-    found.names.name = it.take("name", one_line, "")
-    found.names.note = it.take("note", given.text, "")
-    found.names.travel = it.take("travel", given.travel)
-    found.names.distance = it.take("distance", given.measure)
-    found.names.conflicts = it.take("conflicts", conflicts.read, [])
+    found.names.name = it.read("name", one_line, "")
+    found.names.note = it.read("note", readers.text, "")
+    found.names.travel = it.read("travel", readers.travel)
+    found.names.distance = it.read("distance", readers.measure)
+    found.names.conflicts = it.read("conflicts", conflicts.read, [])
     unit = it.below("coordination")
     unit.allow(fields.UNIT_FIELDS)
     for name, each in fields.UNIT_FIELDS.items():
-        new = unit.take(name, each.read)
+        new = unit.read(name, each.read)
         if new is not None:
             put(found.tables, ("unit", each.column), new)
     sequences = it.table.get("sequence")
-    read_rows(Given({name: row for name, row in it.table.items() if name != "sequence"}, it.where, it.faults), found)
+    read_rows(it.inner({name: row for name, row in it.table.items() if name != "sequence"}, it.place), found)
     if sequences is not None:
         read_sequences(it, found)
     cabinet: dict[str, Any] = {"base": found.base}
     for name, taken in (
-        ("pattern", it.take("command", given.command)), ("clock", it.take("clock", given.day_ticks)),
-        ("section", it.take("section", given.number(1, 8))), ("gain", it.take("gain", given.number(0, 864_000))),
-        ("lose", it.take("lose", given.number(0, 864_000))),
+        ("pattern", it.read("command", readers.command)), ("clock", it.read("clock", readers.day_ticks)),
+        ("section", it.read("section", readers.number(1, 8))), ("gain", it.read("gain", readers.number(0, 864_000))),
+        ("lose", it.read("lose", readers.number(0, 864_000))),
     ):  # fmt: skip
         if taken is not None:
             cabinet[name] = taken

@@ -3,6 +3,7 @@
 TOML Kit does that, Debian's python3-tomlkit."""
 
 from collections.abc import MutableMapping
+from typing import Any
 
 from ..shared.tables import Tables
 from . import reading, toml_text
@@ -19,7 +20,7 @@ def with_splits(text: str, changes: list[tuple[int, Change]], aim: Street) -> st
     from tomlkit.exceptions import TOMLKitError
 
     try:
-        sheet = tomlkit.parse(text)
+        sheet: Any = tomlkit.parse(text)
     except TOMLKitError:
         return None
     for number, change in changes:

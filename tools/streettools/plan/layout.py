@@ -70,7 +70,7 @@ class Layout:
     def orders(self) -> tuple[tuple, tuple]:
         """The phases of both rings in the order of its sequence."""
         sequence = value(self.tables, ("pattern", self.pattern, 5))
-        return tuple(value(self.tables, ("sequence", sequence, ring)) for ring in (1, 2))
+        return value(self.tables, ("sequence", sequence, 1)), value(self.tables, ("sequence", sequence, 2))
 
     def time(self, phase: int) -> int:
         """Returns the split of a phase in ticks."""

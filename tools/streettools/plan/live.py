@@ -13,7 +13,7 @@ from typing import Any
 
 from ..cabinet.messages import GET_NEXT, INTEGER, OCTETS, RESPONSE, Reply, kind_of, message, reply_of
 from ..shared.oids import ASC, CLOCK, CONTROL, CORRECTION, DETECTOR_ENTRY, ENTRIES, OWN, SEQUENCE_DATA
-from .given import Fault, Unreadable
+from ..shared.given import Defect, Unreadable
 from .walk import Name
 
 COLUMNS = [
@@ -84,7 +84,7 @@ class Agent:
 
     def refusal(self, words: str) -> Unreadable:
         """Returns the refusal of what this agent says."""
-        return Unreadable([Fault(self.where, words)])
+        return Unreadable([Defect(self.where, words)])
 
 
 def address(host: str, anywhere: bool) -> str:
@@ -92,9 +92,9 @@ def address(host: str, anywhere: bool) -> str:
     try:
         found = socket.gethostbyname(host)
     except (OSError, UnicodeError):
-        raise Unreadable([Fault(host, "no such host")]) from None
+        raise Unreadable([Defect(host, "no such host")]) from None
     if not anywhere and not ipaddress.ip_address(found).is_loopback:
-        raise Unreadable([Fault(host, "not on this machine: --anywhere lets other hosts be asked")])
+        raise Unreadable([Defect(host, "not on this machine: --anywhere lets other hosts be asked")])
     return found
 
 

@@ -4,6 +4,7 @@ from ..shared.fault import Fault
 from ..shared.tables import Cell, Tables
 from . import rules
 from ..shared.cells import differing, tables_of, value, written
+from .names import Intersection
 from .pattern_sentences import sentences
 from .reading import Street
 
@@ -62,7 +63,7 @@ def downloads(old: Tables, new: Tables, flash: bool = False) -> list[list[list]]
     may = {FLASH_RULE} if flash else set()
     wrong = [it for it in rules.broken(new, old) if it.rule not in may]
     if wrong:
-        raise NoWay("; ".join(sentences(new, None, wrong[0], old)))
+        raise NoWay("; ".join(sentences(new, Intersection(), wrong[0], old)))
     cells = differing(old, new)
     whole = packed(old, new, cells, may)
     if whole is not None:

@@ -10,7 +10,8 @@ from dataclasses import dataclass, field, replace
 from typing import Any
 
 from ..shared.fault import Fault
-from .fields import Wrong, is_number, one_line
+from ..shared.given import Wrong
+from .fields import is_number, one_line
 
 KINDS = ("vehicle", "pedestrian")
 """What a phase may serve."""
@@ -68,6 +69,23 @@ class Names:
         """Returns what is known of a cabinet, by its number from 1."""
         return self.intersections[number - 1] if number <= len(self.intersections) else Intersection()
 
+    def number(self, text: str, count: int, of: str = "the street") -> int:
+        """Returns the number of one of so many cabinets that a text names: by its number, by the name of its
+        intersection, or by a part of the name that no other has."""
+        if text.isdecimal() and text.isascii():
+            if len(text) > 9 or not 1 <= int(text) <= count:
+                raise Fault(f"{of} has no cabinet {text}: its cabinets are 1 to {count}")
+            return int(text)
+        known = {number: " ".join(self.intersection(number).name.split()) for number in range(1, count + 1)}
+        if not any(known.values()):
+            raise Fault(f"no name is known here, so not {text!r} either: a timing sheet or a names file gives names")
+        fits = [number for number, name in known.items() if name.casefold() == text.casefold()]
+        fits = fits or [number for number, name in known.items() if text.casefold() in name.casefold()]
+        if len(fits) != 1:
+            listed = ", ".join(repr(name) for name in known.values() if name)
+            raise Fault(f"{'several cabinets' if fits else 'no cabinet'} named {text!r}: there are {listed}")
+        return fits[0]
+
     def called(self, number: int) -> str:
         """Returns what a cabinet is called."""
         return self.intersection(number).name or f"cabinet {number}"
@@ -97,7 +115,7 @@ def text(names: Names) -> str:
 def of_intersection(given: dict[str, Any]) -> Intersection:
     """Returns an intersection as a names file has it."""
     phases = {int(number): Phase(**it) for number, it in given.get("phases", {}).items()}
-    numbered = {
+    numbered: dict[str, Any] = {
         name: {int(number): it for number, it in given.get(name, {}).items()} for name in ("preempts", "detectors")
     }
     rest = {name: it for name, it in given.items() if name not in ("phases", "preempts", "detectors")}

@@ -5,8 +5,7 @@ from collections.abc import Iterator
 from ..shared.tables import ALL
 from . import fields
 from ..shared.cells import SPLITS, put, value
-from .fields import Wrong
-from .given import Given
+from ..shared.given import Given, Wrong
 from .layout import OMITTED
 from .started import Read
 
@@ -17,16 +16,19 @@ def read_split(it: Given, number: int, found: Read, usual: tuple[int, ...] | Non
     """Takes up times, modes and coordinated phases of a split, and gives partners theirs. `usual` are the phases that
     are coordinated where nothing is said; the messages have it as `called`."""
     said_times = set()
-    for name, each, column in (("splits", fields.SPLIT_TIME, 3), ("modes", fields.SPLIT_MODES, 4)):
+    parts: tuple[tuple[str, fields.Field, int], ...] = (
+        ("splits", fields.SPLIT_TIME, 3), ("modes", fields.SPLIT_MODES, 4),
+    )  # fmt: skip
+    for name, each, column in parts:
         below = it.spread(name, len(ALL))
         below.allow(map(str, ALL))
         for phase in ALL:
-            new = below.take(str(phase), each.read)
+            new = below.read(str(phase), each.read)
             if new is not None:
                 put(found.tables, ("split", number, phase, column), new)
                 if column == 3:
                     said_times.add(phase)
-    pair = it.take("coordinated", lambda said: coordinated(said, found), usual)
+    pair = it.read("coordinated", lambda said: coordinated(said, found), usual)
     if pair is not None:
         for phase in ALL:
             put(found.tables, ("split", number, phase, 5), int(phase in pair))
@@ -93,7 +95,7 @@ def read_pattern(it: Given, number: int, found: Read, used: dict[int, str]) -> N
     sequence of its own number and 1, where nothing else is said."""
     it.allow((*fields.PATTERN_FIELDS, *SPLIT_NAMES))
     in_seconds(it)
-    said = {name: it.take(name, each.read) for name, each in fields.PATTERN_FIELDS.items()}
+    said = {name: it.read(name, each.read) for name, each in fields.PATTERN_FIELDS.items()}
     if said["cycle"]:
         for name, usual in (("split", number if number in SPLITS else 0), ("sequence", 1)):
             if said[name] is None and value(found.tables, ("pattern", number, fields.PATTERN_FIELDS[name].column)) == 0:

@@ -85,11 +85,11 @@ class PatternSentences(Sentences):
                 )
         for side in laid.sides:
             phases = [laid.of_side(side, ring) for ring in (1, 2)]
-            total = [sum(map(laid.time, it)) // 10 for it in phases]
-            if total[0] != total[1]:
+            totals = [sum(map(laid.time, it)) // 10 for it in phases]
+            if totals[0] != totals[1]:
                 return (
                     f"pattern {row} (split {laid.split}): up to the barrier phases {many(phases[0])} of ring 1 have "
-                    f"{total[0]} s, and {many(phases[1])} of ring 2 {total[1]} s; both rings cross the barrier "
+                    f"{totals[0]} s, and {many(phases[1])} of ring 2 {totals[1]} s; both rings cross the barrier "
                     "together, so these must be the same"
                 )
         raise AssertionError("the pattern keeps the rule")

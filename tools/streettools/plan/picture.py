@@ -44,7 +44,7 @@ def slots(tables: Tables, pattern: int) -> list[Slot]:
         lengths = {phase: laid.time(phase) / 10 for phase in laid.slots}
         orders = laid.orders
     else:
-        orders = tuple(value(tables, ("sequence", 1, ring)) for ring in (1, 2))
+        orders = value(tables, ("sequence", 1, 1)), value(tables, ("sequence", 1, 2))
         lengths = {
             phase: value(tables, ("phase", phase, 6)) + tables.clearance(phase) / 10
             for order in orders

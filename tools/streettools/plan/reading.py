@@ -6,10 +6,11 @@ from collections.abc import Callable
 from dataclasses import dataclass, field
 from typing import Any
 
-from . import days, given, intersection, names
-from .fields import Wrong, is_number, one_line
+from ..shared.given import Defect, Given, Unreadable, Wrong
+from . import days, intersection, names, readers
+from .event_times import Timed
+from .fields import is_number, one_line
 from .findings import Finding, warn
-from .given import Given, Unreadable
 
 TOP = (
     "title", "units", "run", "master", "schedule", "day_plan", "sections", "intersection", "events", "respond",
@@ -54,10 +55,10 @@ class Street:
 def read_run(it: Given, drifts: bool) -> dict[str, Any]:
     """Returns the head of the scenario: how long it is run, and the community."""
     it.allow((*RUN, "community"))
-    found = {name: it.take(name, given.number(*limits), USUAL_RUN[name]) for name, limits in RUN.items()}
+    found = {name: it.read(name, readers.number(*limits), USUAL_RUN[name]) for name, limits in RUN.items()}
     if drifts and "version" not in it.table:
         found["version"] = 2
-    community = it.take("community", given.text)
+    community = it.read("community", readers.text)
     return found if community is None else found | {"community": community}
 
 
@@ -65,11 +66,11 @@ def read_master(it: Given, schedule: list[dict] | None) -> dict[str, Any] | None
     """Returns the master, None where the sheet says nothing of it."""
     it.allow(("clock", *EVERY, "retries"))
     found: dict[str, Any] = {}
-    clock = it.take("clock", given.day_ticks)
+    clock = it.read("clock", readers.day_ticks)
     if clock is not None:
         found["clock"] = clock
     for name, limits in (*((name, (0, 86_400)) for name in EVERY), ("retries", (1, 10))):
-        said = it.take(name, given.number(*limits))
+        said = it.read(name, readers.number(*limits))
         if said is not None:
             found[name] = said
     if schedule is not None:
@@ -86,8 +87,8 @@ def read_schedule(top: Given) -> list[dict] | None:
             if name not in it.table:
                 it.fault("is missing", name)
         entries.append({
-            "second": it.take("at", given.day_seconds, 0), "section": it.take("section", given.number(1, 8), 1),
-            "pattern": it.take("pattern", given.command, 0),
+            "second": it.read("at", readers.day_seconds, 0), "section": it.read("section", readers.number(1, 8), 1),
+            "pattern": it.read("pattern", readers.command, 0),
         })  # fmt: skip
     return entries if "schedule" in top.table else None
 
@@ -96,7 +97,7 @@ def rounds_of(ticks: int) -> Callable[[object], int]:
     """Returns what reads a time in seconds as a number of rounds."""
 
     def read(said: object) -> int:
-        found = given.measure(said) * 10 / ticks
+        found = readers.measure(said) * 10 / ticks
         if abs(found - round(found)) > 1e-6:
             raise Wrong(f"{said:g} s: detectors are timed in whole rounds, here of {ticks / 10:g} s")
         return round(found)
@@ -107,18 +108,18 @@ def rounds_of(ticks: int) -> Callable[[object], int]:
 def read_detectors(it: Given, cabinet: int, ticks: int, found: names.Intersection) -> list[dict]:
     """Returns the detectors of an intersection as a bank has them."""
     bank = []
-    for number, row in it.each("detector", 64):
+    for number, row in it.numbered("detector", 64):
         row.allow(("name", "phase", "delay", "extend", "no_activity", "max_presence", "erratic"))
         if "phase" not in row.table:
             row.fault("say which phase it calls", "phase")
         times = {
-            name: row.take(name, rounds_of(ticks), 0) for name in ("delay", "extend", "no_activity", "max_presence")
+            name: row.read(name, rounds_of(ticks), 0) for name in ("delay", "extend", "no_activity", "max_presence")
         }
         bank.append({
-            "cabinet": cabinet, "detector": number, "phase": row.take("phase", given.number(1, 16), 1), **times,
-            "erratic": row.take("erratic", given.number(0, 255), 0),
+            "cabinet": cabinet, "detector": number, "phase": row.read("phase", readers.number(1, 16), 1), **times,
+            "erratic": row.read("erratic", readers.number(0, 255), 0),
         })  # fmt: skip
-        called = row.take("name", one_line, "")
+        called = row.read("name", one_line, "")
         if called:
             found.detectors[number] = called
     return bank
@@ -127,7 +128,7 @@ def read_detectors(it: Given, cabinet: int, ticks: int, found: names.Intersectio
 def read_units(said: object) -> str:
     """Returns the units of speeds and lengths."""
     if said not in names.UNITS:
-        raise Wrong(f'{said!r} is no system of units: write "us" for mph and feet, "metric" for km/h and metres')
+        raise Wrong(f'{said!r} is not a system of units: write "us" for mph and feet, "metric" for km/h and metres')
     return str(said)
 
 
@@ -135,14 +136,14 @@ def read_names(top: Given) -> names.Names:
     """Returns the names that stand at the top of a sheet."""
     sections = top.below("sections")
     sections.allow(map(str, range(1, 9)))
-    called = {number: sections.take(str(number), one_line) for number in range(1, 9)}
+    called = {number: sections.read(str(number), one_line) for number in range(1, 9)}
     return names.Names(
-        title=top.take("title", one_line, ""), units=top.take("units", read_units, "us"),
+        title=top.read("title", one_line, ""), units=top.read("units", read_units, "us"),
         sections={number: name for number, name in called.items() if name},
     )  # fmt: skip
 
 
-def plain(said: object) -> object:
+def plain(said: object) -> Any:
     """Returns a value that JSON can have."""
     try:
         json.dumps(said, allow_nan=False)
@@ -151,29 +152,38 @@ def plain(said: object) -> object:
     return said
 
 
+def kept_list(said: object) -> list:
+    """Returns a list, whose times are still times."""
+    if not isinstance(said, list):
+        raise Wrong("has to be a list")
+    plain([{**it, "at": 0} if isinstance(it, dict) else it for it in said])
+    return said
+
+
 def listed(said: object) -> list:
     """Returns a list that JSON can have."""
     if not isinstance(said, list):
-        raise Wrong("a list is wanted here")
+        raise Wrong("has to be a list")
     return plain(said)
 
 
 def respond_of(top: Given) -> dict[str, Any] | None:
     """Returns by what rule patterns follow the traffic, as a field file has it."""
     top.below("respond").allow(("period", "sections"))
-    return top.take("respond", plain)
+    return top.read("respond", plain)
 
 
-def read_events(top: Given, scenario: dict[str, Any]) -> list | None:
-    """Takes up what comes in round by round, which a sheet has as a scenario has it; returns the pulses of
-    detectors."""
+def read_events(top: Given, scenario: dict[str, Any], names: list[str]) -> list | None:
+    """Takes up what comes in round by round, which a sheet has as a scenario has it, or with times of day and names of
+    intersections; returns the pulses of detectors."""
     it = top.below("events")
     it.allow((*LISTS, "pulses"))
+    timed = Timed(scenario, names)
     for name in LISTS:
-        said = it.take(name, listed)
+        said = it.read(name, kept_list)
         if said is not None:
-            scenario[name] = said
-    return it.take("pulses", listed)
+            scenario[name] = plain(timed.items(it, name, said))
+    return it.read("pulses", listed)
 
 
 def read_days(top: Given, street: Street, schedule: list[dict] | None) -> None:
@@ -187,9 +197,9 @@ def read_days(top: Given, street: Street, schedule: list[dict] | None) -> None:
         street.notes.append(f"{told}: `./arterial plan day` takes that of a date")
 
 
-def read_sheet(sheet: dict[str, Any]) -> tuple[Street, list[given.Fault]]:
+def read_sheet(sheet: dict[str, Any]) -> tuple[Street, list[Defect]]:
     """Returns what a sheet comes to, and all faults that were found in it."""
-    top = Given(sheet)
+    top = Given(sheet, faults=[])
     top.allow(TOP, intersection.HOMES)
     found = read_names(top)
     rows = list(top.tables("intersection"))
@@ -201,11 +211,11 @@ def read_sheet(sheet: dict[str, Any]) -> tuple[Street, list[given.Fault]]:
     scenario["cabinets"] = []
     for number, it in rows:
         called = it.table.get("name")
-        it.where = f"intersection {number}" + (f" ({called})" if called else "")
+        it.place = f"intersection {number}" + (f" ({called})" if called else "")
         read, cabinet = intersection.read(it)
         scenario["cabinets"].append(cabinet)
         found.intersections.append(read.names)
-        street.notes += [f"{it.where}: {note}" for note in read.notes]
+        street.notes += [f"{it.place}: {note}" for note in read.notes]
         street.doubts += [warn(found.called(number), words, is_cause=True) for words in read.doubts]
         street.bank += read_detectors(it, number, scenario["ticks"], read.names)
     schedule = read_schedule(top)
@@ -214,9 +224,9 @@ def read_sheet(sheet: dict[str, Any]) -> tuple[Street, list[given.Fault]]:
         scenario["master"] = master
     street.numbers = {place - 1 for place, it in top.tables("schedule") if is_number(it.table.get("at"))}
     read_days(top, street, schedule)
-    street.pulses = read_events(top, scenario)
+    street.pulses = read_events(top, scenario, [it.name for it in found.intersections])
     street.respond = respond_of(top)
-    return street, top.faults
+    return street, top.faults or []
 
 
 def street_of(sheet: dict[str, Any]) -> Street:

@@ -214,7 +214,7 @@ def loads_of(old: Street, new: Street, found: list[dict[str, Any]], places: dict
     for load in found:
         number = load["cabinet"]
         if number not in places:
-            words = f"intersection {number} ({new.names.called(number)}) changes, too, and has no address"
+            words = f"intersection {number} ({new.names.called(number)}) also changes, and has no address"
             raise Fault(f"{words}: {number}=HOST:PORT, or --only with the numbers of those that are to be loaded")
         if number not in made:
             made[number] = Load(number, new.names.called(number), places[number], *both[number - 1])

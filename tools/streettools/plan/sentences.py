@@ -1,6 +1,8 @@
 """A broken rule as a sentence with its numbers, and what would mend it: rings, lists, sequences, times, preempts,
 downloads."""
 
+from collections.abc import Iterable
+
 from ..shared.tables import ALL, Tables
 from . import rules, street_rules
 from ..shared.cells import RINGS, value
@@ -14,7 +16,7 @@ def seconds(ticks: int) -> str:
     return f"{ticks / 10:g} s"
 
 
-def many(phases: object) -> str:
+def many(phases: Iterable[object]) -> str:
     """Returns phases, or other numbers, in a row: 2, 5 and 6."""
     words = [str(it) for it in phases]
     return " and ".join(filter(None, (", ".join(words[:-1]), words[-1]))) if words else "none"
@@ -108,6 +110,7 @@ class Sentences:
     def rule_6(self, row: int) -> str:
         """Phases of a ring with a concurrent phase in common have the same ones."""
         other = street_rules.partner_in_ring(self.tables, row)
+        assert other is not None
         mine, theirs = (sorted(concurrent(self.tables, it)) for it in (row, other))
         return (
             f"{self.phase(row)} may be on with {many(mine)}, and {self.phase(other)} of the same ring with "
@@ -174,6 +177,7 @@ class Sentences:
     def rule_11(self, row: int) -> str:
         """The red revert is no longer than any other phase takes at least."""
         other = street_rules.sooner(self.tables, row)
+        assert other is not None
         least = least_service(self.tables, other) + self.tables.clearance(other)
         return (
             f"{self.phase(row)} has a red revert of {seconds(value(self.tables, ('phase', row, 10)))}, but "
@@ -228,6 +232,7 @@ class Sentences:
     def rule_21(self, row: int) -> str:
         """A download leaves the enabled phases, their rings and their lists as they are."""
         new, old = self.tables, self.before
+        assert old is not None
         on = [row in tables.enabled() for tables in (new, old)]
         if on[0] != on[1]:
             what = f"turns {self.phase(row)} {'on' if on[0] else 'off'}"

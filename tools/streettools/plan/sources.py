@@ -2,15 +2,14 @@
 their first letters."""
 
 import pathlib
-import sys
 from collections.abc import Callable, Iterator
 from dataclasses import dataclass, field
 from typing import Any
 
 from ..shared import shapes
+from ..shared.given import Defect, Unreadable, content_of
 from . import jsontext, names, reading, toml_text
 from .findings import Finding, Level
-from .given import Unreadable
 from .reading import Street
 from ..shared.values import MOST_BYTES
 
@@ -34,11 +33,6 @@ class Source:
     def errors(self) -> list[Finding]:
         """What keeps the file from being taken."""
         return [it for it in self.findings if it.level is Level.ERROR]
-
-
-def content_of(path: str) -> bytes:
-    """Returns the bytes of a file; `-` is standard input."""
-    return sys.stdin.buffer.read() if path == "-" else pathlib.Path(path).read_bytes()
 
 
 def load(path: str, named: str | None = None) -> Source:
@@ -72,7 +66,7 @@ def utf8(content: bytes) -> str:
     try:
         return jsontext.decoded(content.removeprefix(b"\xef\xbb\xbf")).replace("\r\n", "\n")
     except jsontext.NoJson as fault:
-        raise Unreadable([reading.given.Fault(str(fault.place), fault.words)]) from None
+        raise Unreadable([Defect(str(fault.place), fault.words)]) from None
 
 
 def names_of(path: str, named: str | None) -> names.Names:
@@ -95,13 +89,9 @@ def read_sheet(source: Source, read: Callable[[], tuple[dict, list[str]]]) -> No
     street.notes = notes + street.notes
     for fault in faults:
         source.error(fault.words, fault.where)
-    if not faults:
-        for fault in shapes.scenario_faults(street.scenario):
-            source.error(
-                fault.words,
-                f"events, {fault.path}" if fault.path.startswith(reading.LISTS) else fault.path,
-                line=fault.line,
-            )
+    for wrong in () if faults else shapes.scenario_faults(street.scenario):
+        where = f"events, {wrong.path}" if wrong.path.startswith(reading.LISTS) else wrong.path
+        source.error(wrong.words, where, line=wrong.line)
     for note in street.notes:
         source.findings.append(Finding(Level.NOTE, "", note))
     source.street = street
@@ -131,7 +121,7 @@ def read_json(source: Source, content: bytes, known: names.Names) -> None:
         source.error(f"expected at most {MOST_BYTES} bytes, found {len(content)}", line="scenario: limit .")
         return
     try:
-        value = jsontext.read(content)
+        value: Any = jsontext.read(content)
     except jsontext.NoJson as fault:
         source.error(fault.words, line="scenario: not JSON", place=str(fault.place))
         return

@@ -1,12 +1,12 @@
 """An intersection of a sheet, begun: the standard table, the rings as drawn, and the partners that they need."""
 
+from collections.abc import Callable
 from dataclasses import dataclass, field
 
+from ..shared.given import Given, Wrong
 from ..shared.tables import Tables
 from . import drawing, fields, names
 from ..shared.cells import put, value
-from .fields import Wrong
-from .given import Given
 
 
 @dataclass
@@ -22,11 +22,11 @@ class Read:
     partners: dict[int, int] = field(default_factory=dict)
 
 
-def word_of(*words: str):
+def word_of(*words: str) -> Callable[[object], str]:
     """Returns what reads one of some words."""
 
     def read(it: object) -> str:
-        if it not in words:
+        if not isinstance(it, str) or it not in words:
             known = ", ".join(f'"{word}"' for word in words)
             raise Wrong(f"expected one of {known}, found {it!r}")
         return it
@@ -36,12 +36,11 @@ def word_of(*words: str):
 
 def started(it: Given) -> Read:
     """Returns the intersection with its standard table and its rings."""
-    base = it.take("standard", word_of("std8", "max8"), "std8")
+    base = it.read("standard", word_of("std8", "max8"), "std8")
     found = Read(base, Tables(base), names.Intersection())
-    kinds = {
-        number: row.take("kind", word_of("vehicle", "pedestrian"), "vehicle") for number, row in it.each("phase", 16)
-    }
-    drawn = it.take("rings", drawing.read)
+    word = word_of("vehicle", "pedestrian")
+    kinds = {number: row.read("kind", word, "vehicle") for number, row in it.numbered("phase", 16)}
+    drawn = it.read("rings", drawing.read)
     if drawn is not None:
         try:
             found.drawn, found.partners = drawing.with_partners(drawn)

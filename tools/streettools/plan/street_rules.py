@@ -92,7 +92,8 @@ def rule_8(tables: Tables) -> Iterator[int]:
 
 def side_turns(tables: Tables, number: int, ring: int) -> list[frozenset[int]]:
     """Returns the sides in the order in which a ring of a sequence comes to them, each as often as it does."""
-    side, turns = sides_by_phase(tables), []
+    side = sides_by_phase(tables)
+    turns: list[frozenset[int]] = []
     for phase in value(tables, ("sequence", number, ring)):
         if not turns or turns[-1] != side[phase]:
             turns.append(side[phase])

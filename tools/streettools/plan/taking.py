@@ -21,11 +21,10 @@ def taken(path: str, named: str | None = None) -> Source:
     return source
 
 
-def sheet(path: str) -> Street:
-    """Returns the street of a sheet."""
-    street = taken(path).street
-    if street is None:
-        raise Refused(f"{path}: not a sheet")
+def sheet(path: str, named: str | None = None) -> Street:
+    """Returns the street of a sheet, or of a scenario with its names."""
+    street = taken(path, named).street
+    assert street is not None, "a file without faults is a street"
     return street
 
 

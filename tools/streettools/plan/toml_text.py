@@ -7,9 +7,8 @@ from collections.abc import Iterator
 import tomli_w
 from typing import Any
 
-from ..shared.given import plain
+from ..shared.given import Defect, Unreadable, plain
 from . import toml_hints
-from .given import Fault, Unreadable
 
 HEAD = "# A timing sheet, in seconds. Omitted values come from the standard table; docs/PLANS.md has all names.\n"
 ROWS = ("phase", "detector", "sequence")
@@ -117,10 +116,10 @@ def read(content: str) -> dict[str, Any]:
     except ValueError as fault:
         found = AT.fullmatch(str(fault))
         if not found:
-            raise Unreadable([Fault("", f"no TOML: {fault}")]) from None
+            raise Unreadable([Defect("", f"no TOML: {fault}")]) from None
         where = f"line {found[2]}, column {found[3]}" if found[2] else "at the end"
         line = content.split("\n")[int(found[2]) - 1] if found[2] else content.rstrip().rpartition("\n")[2]
         hint = toml_hints.hint(line, int(found[3] or len(line)) - 1, found[1])
         told = f"no TOML: {found[1][:1].lower()}{found[1][1:]}"
         words = f"{hint} ({told})" if hint else told
-        raise Unreadable([Fault(where, words)]) from None
+        raise Unreadable([Defect(where, words)]) from None

@@ -72,7 +72,7 @@ class Writing:
         names = {it.name for it in flows}
         for flow in flows:
             if not LANES.fullmatch(flow.name):
-                self.notes.append(f"movement {flow.name} of cabinet {number} is no lane group, as EBT: not written")
+                self.notes.append(f"movement {flow.name} of cabinet {number} is not a lane group, as EBT: not written")
                 continue
             groups.lane("Lanes", flow.name, str(flow.lanes))
             is_permitted_alone = flow.permitted and flow.phase in flow.permitted
@@ -112,7 +112,7 @@ class Writing:
     def add_link(self, start: int, end: int, way: str, seconds: float) -> None:
         """Says the approach by which vehicles drive from one intersection to another."""
         if way not in WAYS:
-            self.notes.append(f"approach {way} of cabinet {end} is no way, as EB: not written")
+            self.notes.append(f"approach {way} of cabinet {end} is not a direction, as EB: not written")
             return
         groups = self.groups[end]
         groups.link("Up ID", way, str(start))

@@ -7,7 +7,7 @@ import re
 from collections.abc import Iterable, Iterator
 from dataclasses import dataclass, field
 
-from .given import Fault, Unreadable
+from ..shared.given import Defect, Unreadable
 
 TITLES = {
     "network settings": "network", "node data": "nodes", "link data": "links", "lane group data": "lanes",
@@ -54,7 +54,7 @@ class Utdf:
 
     sections: dict[str, list[Row]] = field(default_factory=dict)
     strange: list[str] = field(default_factory=list)
-    faults: list[Fault] = field(default_factory=list)
+    faults: list[Defect] = field(default_factory=list)
     interval: int = 60
     notes: list[str] = field(default_factory=list)
 
@@ -86,20 +86,20 @@ class Utdf:
         if NUMBER.fullmatch(entry) and math.isfinite(float(entry)):
             return float(entry)
         hint = ": a decimal point, not a comma" if re.fullmatch(r"[0-9]+,[0-9]+", entry) else ""
-        self.fault(entry, f"{str(entry)[:40]!r} is no number{hint}")
+        self.fault(entry, f"{str(entry)[:40]!r} is not a number{hint}")
         return None
 
     def whole(self, entry: Entry | None) -> int | None:
         """Returns the whole number that a field has, None where it is blank."""
         found = self.number(entry)
         if found is not None and entry and not found.is_integer():
-            self.fault(entry, f"{str(entry)[:40]!r} is no whole number")
+            self.fault(entry, f"{str(entry)[:40]!r} is not a whole number")
             return None
         return None if found is None else int(found)
 
     def fault(self, entry: Entry, words: str) -> None:
         """Keeps what is wrong with a field, once."""
-        fault = Fault(entry.place(), words)
+        fault = Defect(entry.place(), words)
         if fault not in self.faults:
             self.faults.append(fault)
 
@@ -115,10 +115,10 @@ def rows_of(text: str, file: str) -> Iterator[tuple[int, list[str]]]:
     try:
         for row in lines:
             if lines.line_num > MOST_ROWS:
-                raise Unreadable([Fault(file, f"more than {MOST_ROWS} lines")])
+                raise Unreadable([Defect(file, f"more than {MOST_ROWS} lines")])
             yield lines.line_num, [it.strip() for it in row]
     except csv.Error as fault:
-        raise Unreadable([Fault(f"{file} line {lines.line_num}".strip(), f"not comma-separated: {fault}")]) from None
+        raise Unreadable([Defect(f"{file} line {lines.line_num}".strip(), f"not comma-separated: {fault}")]) from None
 
 
 def section_of(first: str, row: list[str]) -> str | None:
@@ -184,7 +184,7 @@ def read_all(texts: Iterable[tuple[str, str]]) -> Utdf:
     find_repeated(found)
     if not found.records("phases"):
         words = "a section [Phases], or a line `Phasing Data`, with a header RECORDNAME,INTID,D1,.."
-        raise Unreadable([Fault("", f"no phases in it: {words}")])
+        raise Unreadable([Defect("", f"no phases in it: {words}")])
     return found
 
 

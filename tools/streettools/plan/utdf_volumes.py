@@ -21,7 +21,7 @@ def minutes_of(entry: Entry, utdf: Utdf) -> int:
     """Returns the minute of the day of a count, which is written as 1715 or as 17:15."""
     words = entry.replace(":", "")
     if not (words.isdecimal() and len(words) <= 4 and int(words[-2:]) < 60 and int(words) < 2400):
-        utdf.fault(entry, f"{str(entry)[:40]!r} is no time of day, as 1715")
+        utdf.fault(entry, f"{str(entry)[:40]!r} is not a time of day, as 1715")
         return 0
     return int(words) // 100 * 60 + int(words[-2:])
 

@@ -11,7 +11,7 @@ from ..shared.tables import Tables
 from . import names
 from ..shared.cells import Lists, cells_between, kinds, put, unset
 from ..shared.clock import DAY_TICKS
-from .given import Fault, Unreadable
+from ..shared.given import Defect, Unreadable
 from .reading import USUAL_RUN, Street
 
 Name = Arcs
@@ -100,7 +100,7 @@ def read(text: str) -> dict[Name, int | bytes]:
             "no line is a name in numbers with its value, as `.1.3.6.1.4.1.1206.4.2.1.1.2.1.4.2 = INTEGER: 10`: walk "
             "with -On"
         )
-        raise Unreadable([Fault("", words)])
+        raise Unreadable([Defect("", words)])
     return known
 
 
@@ -159,7 +159,7 @@ class Walked:
             self.clock = value
         elif name == BACKUP:
             self.take_cell(name, ("unit", 5), value)
-        elif name == FORCE_MODE and value in FORCE_WORDS:
+        elif name == FORCE_MODE and isinstance(value, int) and value in FORCE_WORDS:
             put(self.tables, ("unit", 7), FORCE_WORDS[value])
         elif (
             name[:BELOW_ASC] == oids.ASC
@@ -236,7 +236,7 @@ def street_of(walks: list[dict[Name, int | bytes]], called: list[str]) -> Street
             walked.take(name, value)
         if not walked.placed:
             raise Unreadable(
-                [Fault(called[number - 1], "nothing of the phase, split and pattern tables of NTCIP 1202 is in it")]
+                [Defect(called[number - 1], "nothing of the phase, split and pattern tables of NTCIP 1202 is in it")]
             )
         cabinet: dict[str, Any] = {"base": "std8", "cells": cells_between(Tables("std8"), walked.tables)}
         cabinet |= {name: it for name, it in (("pattern", walked.command), ("clock", walked.clock)) if it}

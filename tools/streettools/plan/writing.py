@@ -1,20 +1,20 @@
 """A scenario, or a field file, as a sheet: what differs from the standard table, by its names, and nothing else."""
 
-from collections.abc import Collection, Iterator
+from collections.abc import Callable, Collection, Iterator
 from typing import Any
 
 from ..shared.tables import ALL, Tables
 from ..shared import clock
-from . import drawing, fields, given, intersection, names
+from ..shared.given import Given
+from . import drawing, fields, intersection, names, readers
 from ..shared.cells import PATTERNS, SEQUENCES, SPLITS, differing, tables_of, value
-from .given import Given
 from .reading import EVERY, LISTS, Street
 from .started import Read
 
 
 def read_back(sheet: dict[str, Any]) -> Read | None:
     """Returns what an intersection of a sheet comes to, None where it has faults."""
-    it = Given(sheet)
+    it = Given(sheet, faults=[])
     found, _ = intersection.read(it)
     return None if it.faults else found
 
@@ -23,11 +23,9 @@ def drawings(tables: Tables, known: names.Intersection) -> Iterator[drawing.Draw
     """Yields the drawings to be tried: without partners, the whole one, none."""
     found = drawing.of_tables(tables)
     if found is not None and known.partners:
-        without = tuple(
-            tuple(tuple(it for it in ring if it not in known.partners) for ring in side) for side in found.sides
-        )
-        if all(side[0] or side[1] for side in without):
-            yield drawing.Drawing(without)
+        without = found.without(known.partners)
+        if all(side[0] or side[1] for side in without.sides):
+            yield without
     if found is not None:
         yield found
     yield None
@@ -52,7 +50,7 @@ def say(sheet: dict[str, Any], *path: str) -> dict[str, Any]:
     return sheet
 
 
-def named(of: dict[int, Any], column: int) -> tuple[str, object]:
+def named(of: dict[str, fields.Field], column: int) -> tuple[str, fields.Field]:
     """Returns the field of a column, with its name."""
     return next((name, it) for name, it in of.items() if it.column == column)
 
@@ -177,13 +175,10 @@ def intersection_sheet(cabinet: dict[str, Any], known: names.Intersection) -> di
         ("conflicts", known.conflicts),
     )  # fmt: skip
     head: dict[str, Any] = {name: it for name, it in about if it}
-    for name, show in (
-        ("pattern", given.command_word),
-        ("clock", clock.day_time),
-        ("section", int),
-        ("gain", int),
-        ("lose", int),
-    ):
+    shows: tuple[tuple[str, Callable[[int], object]], ...] = (
+        ("pattern", readers.command_word), ("clock", clock.day_time), ("section", int), ("gain", int), ("lose", int),
+    )  # fmt: skip
+    for name, show in shows:
         if cabinet.get(name):
             head["command" if name == "pattern" else name] = show(cabinet[name])
     for drawn in drawings(tables, known):
@@ -207,7 +202,7 @@ def master_sheet(master: dict[str, Any]) -> dict[str, Any]:
             {
                 "at": clock.day_time(10 * it["second"]),
                 "section": it["section"],
-                "pattern": given.command_word(it["pattern"]),
+                "pattern": readers.command_word(it["pattern"]),
             }
             for it in master["schedule"]
         ]

@@ -5,10 +5,11 @@ import pathlib
 from ..shared.commandline import Parser
 from ..shared.saying import say
 from ..shared.status import Status
-from . import definitions, manual, markdown, program, tree
+from . import definitions, manual, markdown, mib, program, python, tree
 
 ABOUT = "Says which of the pages that are made from sources aren't current: docs/COMMANDS.md (commands and options), \
-docs/man (manual pages), docs/DEFINITIONS.md (definitions of the proof). With --write they are written."
+docs/man (manual pages), docs/DEFINITIONS.md (definitions of the proof), docs/OBJECTS.md (objects of SNMP), \
+docs/PYTHON-REFERENCE.md (the package for Python). With --write they are written."
 EPILOG = """examples:
   tools/reference               # status 2 if a page isn't current
   tools/reference --write
@@ -28,6 +29,8 @@ def pages(top: pathlib.Path) -> dict[str, str]:
     help, version, tools = program.read(top), program.version(top), tree.tools()
     found = {"docs/COMMANDS.md": markdown.page(help, tools, tree.scripts())}
     found["docs/DEFINITIONS.md"] = definitions.page(top)
+    found["docs/OBJECTS.md"] = mib.page(top)
+    found["docs/PYTHON-REFERENCE.md"] = python.page()
     found |= {f"docs/man/{name}": text for name, text in manual.pages(help, tools, version).items()}
     return found
 

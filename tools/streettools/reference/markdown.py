@@ -23,9 +23,10 @@ For everyone who looks up a command, an option, its unit or its default, or an e
   `arterial cabinet`.
 """
 PROGRAM = """\
-These commands are proved ([GUARANTEES.md](GUARANTEES.md)). Options are given in the order shown; numbers are decimal
-digits without a sign and without a leading zero. The launcher `./arterial` also accepts the name of a file in place of
-`< FILE` after `run`, `check`, `overlaps`, `band` and `respond`.
+[GUARANTEES.md](GUARANTEES.md) says what is proved of these commands, and [TESTING.md](TESTING.md) what is only tested.
+Options are given in the order shown; numbers are decimal digits without a sign and without a leading zero. The
+launcher `./arterial` also accepts the name of a file in place of `< FILE` after `run`, `check`, `overlaps`, `band` and
+`respond`.
 """
 
 

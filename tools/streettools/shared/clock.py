@@ -1,7 +1,11 @@
 """Times of day and times of a run, as people write them. Times of day are seconds since midnight; a tick is 0.1 s."""
 
+import argparse
 import datetime
 import re
+from typing import NamedTuple
+
+from .fault import Fault
 
 DAY_SECONDS, DAY_TICKS = 86_400, 864_000
 OF_DAY = re.compile(r"([0-9]{1,2}):([0-9]{2})(?::([0-9]{2}(?:\.[0-9]{1,6})?))?")
@@ -36,6 +40,17 @@ def moment(text: str) -> datetime.datetime:
     return value
 
 
+def dated(text: str) -> datetime.datetime | datetime.date:
+    """Reads a time of day with its date, or the date alone, in no zone, for argparse."""
+    try:
+        value = datetime.date.fromisoformat(text)
+    except ValueError:
+        return moment(text)
+    if value.year > 9990:
+        raise ValueError
+    return value
+
+
 def daytime(text: str) -> float:
     """Reads a time of day, with a date or without one, in no zone, for argparse."""
     try:
@@ -60,9 +75,42 @@ def run_ticks(text: str) -> int:
     return round(ticks)
 
 
-def run_seconds(text: str) -> float:
-    """Reads a time of a run as `run_ticks` does, and returns seconds."""
-    return run_ticks(text) / 10
+class At(NamedTuple):
+    """A moment of a run as it is written: ticks since the start, None where it can't be that, and ticks since midnight,
+    None where it is no time of day."""
+
+    text: str
+    since: int | None
+    of_day: int | None
+
+
+def at(text: str) -> At:
+    """Reads a moment for argparse: seconds (90), ticks (900t), or with a colon a time of day (07:05 or 07:05:00) or a
+    time since the start (1:30). `placed` tells the latter two apart."""
+    day = of_day(text)
+    try:
+        return At(text, run_ticks(text), None if day is None else round(10 * day))
+    except ValueError:
+        if day is None:
+            known = "seconds (90), ticks (900t), a time of day (07:05:00) or minutes and seconds (1:30)"
+            raise argparse.ArgumentTypeError(f"{text!r} is not {known}") from None
+        return At(text, None, round(10 * day))
+
+
+def placed(moment: At, start: float | None, clock: int, ticks: int) -> int:
+    """Returns the tick of a moment in a run of so many ticks. Where times of day are shown (`start` is the second of
+    the day at which the run starts) a time with a colon is one. Elsewhere it is the time since the start; if that is
+    beyond the end, it is the time of day by the clock (ticks since midnight) with which the run starts."""
+    begun = clock if start is None else round(10 * start)
+    of_day = None if moment.of_day is None else (moment.of_day - begun) % DAY_TICKS
+    if moment.since is not None and (of_day is None or (start is None and moment.since <= ticks)):
+        return moment.since
+    if of_day is not None and of_day <= ticks:
+        return of_day
+    if start is None and not clock and moment.since is not None:
+        return moment.since
+    first, last = day_text(begun / 10), day_text((begun + ticks) / 10)
+    raise Fault(f"{moment.text} is not in the run, which is from {first} to {last}")
 
 
 def clock_text(seconds: float, _: object = None) -> str:
@@ -78,6 +126,13 @@ def day_text(seconds: float) -> str:
     tenths = round(10 * seconds) % 864_000
     whole, rest = divmod(tenths, 10)
     return f"{whole // 3600:02d}:{whole // 60 % 60:02d}:{whole % 60:02d}" + (f".{rest}" if rest else "")
+
+
+def hours_text(seconds: float) -> str:
+    """Returns a time by its seconds from midnight, 24:00 and later too, as hours and minutes, with whole seconds if
+    there are any."""
+    whole = int(seconds)
+    return f"{whole // 3600}:{whole // 60 % 60:02d}" + (f":{whole % 60:02d}" if whole % 60 else "")
 
 
 def looks_like_a_clock(second: int) -> bool:

@@ -1,11 +1,14 @@
 """What every picture shares, whichever tool draws it: two colours, the style, and how a figure is written."""
 
 import pathlib
+import sys
 from typing import Any
 
 import matplotlib
 
-matplotlib.use("Agg")
+if "matplotlib.pyplot" not in sys.modules:
+    # a reader's own program, as a notebook, keeps its own way to show figures
+    matplotlib.use("Agg")
 from matplotlib import pyplot as plt  # noqa: E402
 
 from . import files  # noqa: E402

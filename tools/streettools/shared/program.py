@@ -21,6 +21,10 @@ HERE = os.path.dirname(os.path.dirname(os.path.dirname(os.path.realpath(__file__
 it."""
 OWN, FINDER = os.path.join(HERE, "arterial"), os.path.join(HERE, "proved")
 """The program of an installation, and the script that finds the one of a checkout."""
+CARRIED = os.path.join(HERE, "arterial", "data", "program", "arterial")
+"""The program inside the Python package, where a wheel carries one."""
+TRIED = os.path.join(HERE, "tried")
+"""The script that finds the unproved program of a checkout."""
 MODEL = os.path.join(os.path.dirname(HERE), "model", "program")
 """The model of a checkout: the same commands in plain Python, with which the program is compared (model/README.md)."""
 FIND = 'found=$(. "$0" 2>/dev/null) && exec "$found" "$@"; exit 125'
@@ -77,16 +81,33 @@ def path_of(name: str | None = None) -> str:
     return path
 
 
-def answering(name: str | None, tell: "Callable[[str], object]") -> "pathlib.Path":
+def answering(name: str | None, tell: "Callable[[str], object]", is_long: bool = False) -> "pathlib.Path":
     """Returns the path of the program as `found` does. In a checkout in which none was proved yet it is that of the
-    model, which is slower; that is told by a function that takes a line."""
+    unproved program, if the launcher has built it; else that of the model, unless that would take too long. A function
+    that takes a line is told which."""
     try:
         return found(name)
     except NotProved as fault:
+        if unproved := tried():
+            tell(f"{fault}; until then the unproved program answers")
+            return found(unproved)
+        if is_long:
+            raise NotProved(f"{fault}; `./arterial run SCENARIO` builds one without proofs in a minute") from None
         if not os.path.isfile(MODEL):
             raise
         tell(f"{fault}; until then the model in plain Python answers")
         return found(MODEL)
+
+
+def tried() -> str | None:
+    """Returns the path of the unproved program that was built in this checkout from the sources that stand in it, None
+    where there is none."""
+    import subprocess
+
+    if not os.path.isfile(TRIED):
+        return None
+    asked = subprocess.run([TRIED], capture_output=True, text=True)
+    return asked.stdout.rstrip("\n") or None if asked.returncode == 0 else None
 
 
 def command(*words: str) -> list[str]:
@@ -101,6 +122,8 @@ def usual() -> str:
     """Returns the path of the program where nothing names it."""
     if os.path.isfile(OWN):
         return OWN
+    if os.path.isfile(CARRIED):
+        return CARRIED
     if os.path.isfile(FINDER):
         import subprocess
 

@@ -1,11 +1,18 @@
 """Lines on standard error, texts on standard output, and texts from outside that are shown."""
 
 import sys
+from pathlib import Path
 
 
 def say(command: str, words: object) -> None:
     """Writes a line, or several, to standard error, in the name of a command."""
     print(f"{command}: " + "\n".join(map(visible, str(words).split("\n"))), file=sys.stderr, flush=True)
+
+
+def say_replaced(command: str, path: Path) -> None:
+    """Says that a file is there that the command will write over; nothing where it isn't."""
+    if path.exists():
+        say(command, f"{path} already exists and is replaced")
 
 
 def visible(text: str) -> str:

@@ -17,6 +17,10 @@ PASSES = {"poll": 1, "load": 2, "priority": 3}
 INPUTS, TICKS = 0, 4
 MOST_KNOWN = 4096
 """How many requests are kept as they were read."""
+MOST_INPUTS, MOST_FRAMES, MOST_SCENARIO, MOST_TRACE = 1_000_000, 100_000, 16_777_216, 67_108_864
+"""The limits of a scenario and of a trace that is checked."""
+FULL = 0.9
+"""Which part of what a scenario leaves free is used before a session ends for its record's sake."""
 OF_ITEM = 60
 """How many octets more an item has in a scenario than in its request."""
 
@@ -232,3 +236,23 @@ def trace_of_session(dialogue: bytes, output: bytes, keeps_reads: bool = True) -
     for request, answer in zip(asked, Answers().fed(output)):
         record.answered(request, answer)
     return b"".join(record.trace())
+
+
+class Room:
+    """How much more a record may hold before its session has to end."""
+
+    def __init__(self, scenario: dict[str, Any]) -> None:
+        text = len(compact(scenario))
+        self.inputs = FULL * (MOST_INPUTS - len(scenario.get("inputs", ())))
+        self.frames = FULL * (MOST_FRAMES - len(scenario.get("frames", ())))
+        self.octets = FULL * (MOST_TRACE - text)
+        self.scenario = FULL * (MOST_SCENARIO - text)
+
+    def is_used(self, record: SessionRecord) -> bool:
+        """Tells whether a record has used it."""
+        return (
+            len(record.added["inputs"]) >= self.inputs
+            or len(record.added["frames"]) >= self.frames
+            or record.added_size >= self.scenario
+            or record.size + record.added_size >= self.octets
+        )

@@ -1,3 +1,3 @@
-"""The version of the tools, which is that of the program; tools/pyproject.toml takes it from here."""
+"""The version of the tools, which is that of the program; the wheel takes it from here (tools/wheel/backend.py)."""
 
 VERSION = "0.8"

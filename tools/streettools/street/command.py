@@ -10,11 +10,12 @@ import signal
 import socket
 import sys
 from dataclasses import dataclass
-from typing import Any
+from typing import TYPE_CHECKING, Any
 
 from ..plan.suffixes import is_sheet
 from ..shared import saying
 from ..shared.fault import Fault
+from ..shared.given import content_of
 from ..shared.program import NoProgram, answering, ran
 from ..shared.status import Status
 from . import ports, words
@@ -25,6 +26,9 @@ from .pace import TICKS_A_SECOND, Pace
 from .record import Recorder, read_requests
 from .replay import Replay
 from .street import Hearer, Street
+
+if TYPE_CHECKING:
+    from ..plan.names import Names
 
 OPEN = "warning: anyone who reaches {} can read and change these cabinets: the protocol has no protection"
 USUAL = {"version": 1, "rounds": 1, "ticks": 10, "cabinets": [{}]}
@@ -65,7 +69,7 @@ def text_of(path: str) -> bytes:
         from ..plan import taking  # takes a while
 
         return json.dumps(taking.sheet(path).scenario).encode()
-    return in_order(pathlib.Path(path).read_bytes().replace(b"\n", b" "))
+    return in_order(content_of(path).replace(b"\n", b" "))
 
 
 def in_order(text: bytes) -> bytes:
@@ -99,20 +103,11 @@ def asked_for(given: argparse.Namespace, program: pathlib.Path) -> tuple[dict[st
     return USUAL, []
 
 
-def names_of(scenario: pathlib.Path, count: int) -> dict[int, str]:
-    """Returns the names of the intersections, where a file with names is beside the scenario."""
-    from ..plan import names  # takes a while
+def names_of(scenario: str) -> "Names | None":
+    """Returns the names of a sheet, or of the file with names beside a scenario, None where there are none."""
+    from ..plan import streets  # takes a while
 
-    file = names.beside(scenario)
-    if is_sheet(str(scenario)):
-        from ..plan import taking  # takes a while
-
-        found = taking.sheet(str(scenario)).names
-    elif file.is_file():
-        found = names.read(file.read_text(encoding="utf-8"))
-    else:
-        return {}
-    return {number: found.intersection(number).name for number in range(1, count + 1)}
+    return streets.text_of(scenario).names
 
 
 def street_of(given: argparse.Namespace, hearers: list[Hearer]) -> tuple[Street, list[bytes]]:
@@ -120,8 +115,9 @@ def street_of(given: argparse.Namespace, hearers: list[Hearer]) -> tuple[Street,
     program, is_step = answering(given.program, say), words.is_step(given)
     scenario, requests = asked_for(given, program)
     street = Street(str(program), scenario, Pace(0.0 if is_step else given.speed), hearers)
-    if given.scenario:
-        street.called = names_of(pathlib.Path(given.scenario), len(street.scenario["cabinets"]))
+    if given.scenario and (names := names_of(given.scenario)):
+        rows = range(1, 1 + len(street.scenario["cabinets"]))
+        street.called = {number: names.intersection(number).name for number in rows}
     if is_step:
         street.after_message = words.USUAL_STEP if given.ticks_per_message is None else given.ticks_per_message
     return street, requests
@@ -179,10 +175,14 @@ class Opened:
 
     async def open(self, street: Street, stack: contextlib.AsyncExitStack) -> None:
         """Opens the server, and says where it is."""
+        from .panel import called
+
         place = ports.Place(self.given.bind or ports.LOOPBACK, self.given.panel)
         port = stack.enter_context(ports.page_port(place))
         await self.server.open(port)
         stack.push_async_callback(self.server.close)
+        names = names_of(self.given.scenario) if self.given.scenario else None
+        self.panel.names = called.told(names, len(street.scenario["cabinets"]))
         self.panel.begin(street)
         stack.push_async_callback(self.panel.end, "The street has ended.")
         where = ports.Place(words.panel_name(self.given), ports.place_of(port).port)

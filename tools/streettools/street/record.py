@@ -14,16 +14,12 @@ from ..shared import files
 from ..shared.fault import Fault
 from ..shared.program import Died
 from ..shared.session import Answer, scenario_line
-from ..shared.session_record import SessionRecord, compact
+from ..shared.session_record import Room, SessionRecord
 from .street import Hearer
 
-MOST_INPUTS, MOST_FRAMES, MOST_SCENARIO, MOST_TRACE = 1_000_000, 100_000, 16_777_216, 67_108_864
-"""The limits of a scenario and of a trace that is checked."""
 REQUESTS = ".dialogue"
 """How the name of a file of requests ends."""
 TICKS = re.compile(rb"tick [1-9]\d{0,8}")
-FULL = 0.9
-"""Which part of what a scenario leaves free is used before a session ends for its record's sake."""
 
 
 def requests_beside(trace: pathlib.Path) -> pathlib.Path:
@@ -41,26 +37,6 @@ def read_requests(path: pathlib.Path) -> tuple[bytes, list[bytes]]:
         if request.startswith(b"tick") and not TICKS.fullmatch(request):
             raise Fault(f"{name}: line {number} is not a request")
     return first, found
-
-
-class Room:
-    """How much more a record may hold before its session has to end."""
-
-    def __init__(self, scenario: dict[str, Any]) -> None:
-        text = len(compact(scenario))
-        self.inputs = FULL * (MOST_INPUTS - len(scenario.get("inputs", ())))
-        self.frames = FULL * (MOST_FRAMES - len(scenario.get("frames", ())))
-        self.octets = FULL * (MOST_TRACE - text)
-        self.scenario = FULL * (MOST_SCENARIO - text)
-
-    def is_used(self, record: SessionRecord) -> bool:
-        """Tells whether a record has used it."""
-        return (
-            len(record.added["inputs"]) >= self.inputs
-            or len(record.added["frames"]) >= self.frames
-            or record.added_size >= self.scenario
-            or record.size + record.added_size >= self.octets
-        )
 
 
 class Requests:

@@ -66,7 +66,8 @@ def parser() -> argparse.ArgumentParser:
     words = Parser("street", description=ABOUT, epilog=AFTER)
     words.add_argument(
         "--scenario", metavar="FILE",
-        help="the scenario of the street, or its timing sheet (default: one standard cabinet, rounds of 1 s)",
+        help="the scenario of the street, or its timing sheet; - is standard input (default: one standard cabinet, "
+        "rounds of 1 s)",
     )
     words.add_argument(
         "--ports",

@@ -74,12 +74,14 @@ class StreetTally:
         if len(reached) != len(self.greens) or not all(it.pair for it in self.greens.values()):
             return StreetCounts()
         end = max(self.start, last - reached[-1])
-        seen = (Spread(), Spread())
+        seen, met = (Spread(), Spread()), [0, 0]
         for way, delays in enumerate(ways):
-            spans = [(self.start, end)]
+            spans = [(-last, last)]
             for green, delay in zip(self.greens.values(), delays):
                 green.show(way, False, last)
                 spans = common(spans, [(low - delay, high - delay) for low, high in green.spans[way]])
             for low, high in spans:
-                seen[way].add(high - low)
-        return StreetCounts((None, None), seen, end - self.start)
+                met[way] += max(min(high, end) - max(low, self.start), 0)
+                if low >= self.start and high < end:
+                    seen[way].add(high - low)
+        return StreetCounts((None, None), seen, end - self.start, (met[0], met[1]))

@@ -4,14 +4,16 @@ import copy
 import functools
 import hashlib
 import json
-from dataclasses import dataclass
+from dataclasses import dataclass, replace
 from pathlib import Path
 from typing import Any
 
+from ..cosim.queues import said
 from ..shared.fault import Fault
 from ..shared.program import ran
 from . import drawn, queued
 from .drawn import Drawn
+from .files import facts_name
 from .queued import Queued
 from .sensed import Stream, streams_of
 from .study import Base, BaseKind, Fetch, Street, Study, street_of
@@ -108,6 +110,7 @@ class Builder:
         if found is None:
             table = document.get("volumes")
             came = queued.queued_of(table, variant.seed, self.fetch) if table else None
+            came = self.fitted(came, variant) if came else None
             return Built(written(scenario).encode(), scenario, street, None, came)
         own = scenario.pop("inputs", ())
         short = written(scenario)[:-1]
@@ -116,6 +119,14 @@ class Builder:
             scenario["inputs"] = own
             words = ",".join(filter(None, (written(own)[1:-1], words)))
         return Built(f'{short},"inputs":[{words}]}}'.encode(), scenario, street, found)
+
+    def fitted(self, came: Queued, variant: Variant) -> Queued:
+        """Returns who comes, with what the timing sheet of a variant has said already."""
+        other = next((it.scenario for it in variant.values if isinstance(it, Option) and it.scenario), None)
+        facts = facts_name(other or self.study.base.file or "")
+        if facts is None:
+            return came
+        return replace(came, volumes=said.fitted(came.volumes, said.read(json.loads(self.fetch(facts)))))
 
     def drawn(self, document: dict[str, Any], seed: int | None) -> Drawn | None:
         """Returns the inputs that are drawn."""

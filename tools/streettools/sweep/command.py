@@ -14,7 +14,7 @@ from typing import Any
 from ..shared.fault import Fault
 from ..shared.program import found
 from ..shared.progress import bar
-from ..shared.saying import say
+from ..shared.saying import say, say_replaced
 from ..shared.status import Status
 from . import asking, clusters, here, measures, slurm, table
 from .crew import Crew
@@ -109,6 +109,8 @@ def sweep_over(words: argparse.Namespace) -> int:
     sweep = opened(words)
     asking.sure(sweep.ready.variants.count(), words.yes)
     path = out.with_name(f"{out.name}.runs")
+    if not words.resume:
+        say_replaced("sweep", out)
     if path.exists() and not (words.resume or words.anew):
         raise Fault(f"{path} already exists from an earlier sweep: use --resume to continue or --anew to discard it")
     begun = time.monotonic()
@@ -127,6 +129,9 @@ def sweep_over(words: argparse.Namespace) -> int:
         table.write(out, sweep.ready.names(), lines(sweep, journal, outcomes, first))
         journal.close(remove=not words.keep and not outcomes[Outcome.FAILED])
     tell(outcomes, first, before, time.monotonic() - begun, out)
+    if outcomes[Outcome.REFUSED] and not outcomes[Outcome.DONE] and not outcomes[Outcome.FAILED]:
+        say("sweep", "all runs were refused: nothing was measured")
+        return Status.REFUSED
     return Status.UNFINISHED if outcomes[Outcome.FAILED] else Status.DONE
 
 
@@ -178,6 +183,10 @@ def main(given: list[str]) -> int:
     """Does what the words ask for, and returns the exit status."""
     if given == ["measures"]:
         return list_measures()
+    if given[:1] == ["measure"]:
+        from .given_trace import main as measure
+
+        return measure(given[1:])
     if given[:1] == ["draw"]:
         from .draw import main as draw
 

@@ -73,11 +73,13 @@ class CabinetCounts:
 
 @dataclass(slots=True)
 class StreetCounts:
-    """The bands of a street: by the plan, in ticks, and those that came out in the trace, one way and the other."""
+    """The bands of a street: by the plan, in ticks, and those that came out in the trace, one way and the other. `seen`
+    has those that neither the beginning nor the end of what is measured cuts, `met` the ticks of all."""
 
     planned: tuple[int | None, int | None] = (None, None)
     seen: tuple[Spread, Spread] = field(default_factory=lambda: (Spread(), Spread()))
     starts: int = 0
+    met: tuple[int, int] = (0, 0)
 
 
 @dataclass(slots=True)

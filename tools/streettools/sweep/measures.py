@@ -94,16 +94,19 @@ def planned(way: int) -> Callable[[list[Any]], Value]:
 
 def seen(way: int) -> Callable[[list[Any]], Value]:
     """Returns the mean width of the bands in the trace."""
-    return (
-        lambda parts: round(parts[0].seen[way].total / parts[0].seen[way].count / 10, 3)
-        if parts[0].seen[way].count
-        else 0
-    )
+
+    def value(parts: list[Any]) -> Value:
+        whole: Spread = parts[0].seen[way]
+        if whole.count:
+            return round(whole.total / whole.count / 10, 3)
+        return None if parts[0].met[way] else 0
+
+    return value
 
 
 def through(way: int) -> Callable[[list[Any]], Value]:
     """Returns the share of the time that lies in bands of the trace."""
-    return lambda parts: round(parts[0].seen[way].total / parts[0].starts, 4) if parts[0].starts else None
+    return lambda parts: round(parts[0].met[way] / parts[0].starts, 4) if parts[0].starts else None
 
 
 ENDINGS = {
@@ -267,7 +270,8 @@ STREET = [
             f"band_seen_{name}",
             Scope.STREET,
             "s",
-            f"mean width of the bands {name} in the trace: spans of starts that meet green in each cabinet",
+            f"mean width of the bands {name} in the trace: spans of starts that meet green in each cabinet; those that"
+            " the beginning or the end cuts are left out",
             seen(way),
         ),
         Measure(

@@ -8,7 +8,7 @@ from typing import Any
 
 from ..shared.fault import Fault
 from ..shared.tables import Tables
-from . import choice
+from . import checked, choice
 from .building import Builder
 from .choice import Column
 from .one_run import Runner
@@ -102,10 +102,13 @@ def prepared(document: dict[str, Any], fetch: Fetch, program: Path) -> Prepared:
     builder = Builder(study, fetch, program)
     first = variants.at(0)
     base = builder.document(first)["scenario"]
+    checked.check_values(study)
+    checked.check_beginning(study, base)
     for place, parameter in enumerate(study.parameters):
         for option in parameter.values.options if parameter.values.kind is Kind.OPTION else ():
             values = (*first.values[:place], option, *first.values[place + 1 :])
-            builder.document(Variant(0, values, first.seed))
+            checked.check_beginning(study, builder.document(Variant(0, values, first.seed))["scenario"])
+    checked.check_phases(study, study.columns, phases_of(base))
     columns = choice.spread_out(study.columns, phases_of(base))
     found = Prepared(study, fetch, builder, variants, columns)
     names = found.names()

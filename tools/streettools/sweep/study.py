@@ -1,14 +1,17 @@
 """A study, as its TOML file says it: the scenario at the base, what varies, what is drawn, what is measured."""
 
 import enum
+import json
 from collections.abc import Callable
 from dataclasses import dataclass, field
 from typing import Any
 
+from ..cosim.queues import said
 from ..shared.fault import Fault
 from ..shared.given import NUMBER, Given
 from . import choice, drawn, queued
 from .choice import Column
+from .files import facts_name
 from .measures import Scope
 from .own import Own, own_of
 from .targets import Put, put_of
@@ -126,6 +129,8 @@ def seeds_of(given: Given) -> tuple[int, ...]:
         return tuple(range(1, seeds + 1))
     if not all(isinstance(it, int) and 0 <= it < 2**32 for it in seeds):
         raise given.refuse("seeds", "has to be a number, or a list of numbers from 0 to 4,294,967,295")
+    if twice := next((it for it in seeds if seeds.count(it) > 1), None):
+        raise given.refuse("seeds", f"has {twice} twice: equal seeds give equal runs")
     return tuple(seeds)
 
 
@@ -159,9 +164,22 @@ def tables_of(given: Given, fetch: Fetch) -> dict[str, dict[str, Any]]:
     return found
 
 
+def with_travel(document: dict[str, Any], fetch: Fetch) -> dict[str, Any]:
+    """Returns the study with the times of travel of its timing sheet, if its table `street` has none."""
+    file, table = document.get("scenario"), document.get("street")
+    name = facts_name(file) if isinstance(file, str) else None
+    if name is None or not isinstance(table, dict) or "travel" in table:
+        return document
+    try:
+        travel = said.read(json.loads(fetch(name))).travel[:-1]
+    except ValueError:  # it isn't a sheet, which is said where it is read
+        return document
+    return document if None in travel else document | {"street": table | {"travel": list(travel)}}
+
+
 def study_of(document: dict[str, Any], fetch: Fetch) -> Study:
     """Reads a study; `fetch` gives the files that it names."""
-    given = Given(document, STUDY)
+    given = Given(with_travel(document, fetch), STUDY)
     tables = tables_of(given, fetch)
     own = given.each("own", lambda it: own_of(it, fetch))
     found = Study(

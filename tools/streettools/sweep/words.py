@@ -13,6 +13,7 @@ examples:
   ./arterial sweep offsets.toml --show 17 > scenario.json   # the scenario of run 17 of the table
   ./arterial sweep offsets.toml -o offsets.csv --slurm --interface eth0 --workers 200
   ./arterial sweep measures                                 # the measures that are built in
+  ./arterial sweep measure --help                           # measures of a trace that you have
   ./arterial sweep draw --help                              # pictures of a table
 
 docs/SWEEP.md explains studies."""

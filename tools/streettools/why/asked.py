@@ -2,7 +2,6 @@
 what things are called."""
 
 import argparse
-import pathlib
 from typing import NamedTuple
 
 from model.scenario import Scenario
@@ -79,10 +78,8 @@ def names(trace: str, named: str | None, scenario: str | None, cabinets: int) ->
         return called.fitting(called.read(named), named, cabinets)
     if scenario is not None:
         return called.fitting(of_scenario(scenario), scenario, cabinets)
-    beside = pathlib.Path(trace).with_suffix(".names.json")
-    if trace != "-" and beside.is_file():
-        return called.fitting(called.read(str(beside)), str(beside), cabinets)
-    return Called()
+    beside = called.beside(trace)
+    return Called() if beside is None else called.fitting(called.read(beside), beside, cabinets)
 
 
 def of_scenario(path: str) -> Called:
@@ -101,16 +98,4 @@ def cabinet(text: str | None, found: Called, cabinets: int) -> int:
         if cabinets > 1:
             raise Fault(f"the trace has {cabinets} cabinets: add --cabinet N, 1 to {cabinets}, or a name")
         return 1
-    if text.isdecimal() and text.isascii():
-        if not 1 <= int(text) <= cabinets:
-            raise Fault(f"the trace has no cabinet {text}: its cabinets are 1 to {cabinets}")
-        return int(text)
-    known = {number: found.street(number) for number in range(1, cabinets + 1)}
-    if not any(known.values()):
-        raise Fault(f"no name is known here, so not {text!r} either: --names or --scenario gives names")
-    fits = [number for number, name in known.items() if name.casefold() == text.casefold()]
-    fits = fits or [number for number, name in known.items() if text.casefold() in name.casefold()]
-    if len(fits) != 1:
-        listed = ", ".join(repr(name) for name in known.values() if name)
-        raise Fault(f"{'several cabinets' if fits else 'no cabinet'} named {text!r}: there are {listed}")
-    return fits[0]
+    return found.number(text, cabinets)

@@ -202,7 +202,7 @@ def test_what_is_wrong_is_told(program, tmp_path):
     assert refused(program, "--scenario", tmp_path / "none.json") == (
         1, f"cabinet: {tmp_path / 'none.json'}: No such file or directory"
     )
-    assert refused(program, "--cabinet", 2) == (2, "cabinet: the scenario has no cabinet 2")
+    assert refused(program, "--cabinet", 2) == (2, "cabinet: the scenario has no cabinet 2: its cabinets are 1 to 1")
     assert refused(program, "--cabinet", 65)[0] == 2
     assert refused(tmp_path / "none") == (125, f"cabinet: no program at {tmp_path / 'none'}")
     with socket.socket(socket.AF_INET, socket.SOCK_DGRAM) as other:

@@ -59,13 +59,17 @@ class Ran(NamedTuple):
     said: list[str]
 
 
-def cosim(*words: object) -> Ran:
-    """Runs `arterial cosim`."""
+def cosim(*words: object, raw: bool = False) -> Ran:
+    """Runs `arterial cosim`; `raw` keeps all lines that it said."""
     command = [sys.executable, "-B", TOP / "tools/streettools", "cosim", *map(str, words)]
     own = os.environ | {"ARTERIAL_PROGRAM": str(PROGRAM)}
     ran = subprocess.run(command, capture_output=True, text=True, cwd=TOP, timeout=SECONDS, env=own)
-    said = [line for line in ran.stderr.splitlines() if "simulated seconds in one" not in line]
-    return Ran(ran.returncode, ran.stdout, said)
+    return Ran(ran.returncode, ran.stdout, [line for line in ran.stderr.splitlines() if raw or not is_of_speed(line)])
+
+
+def is_of_speed(line: str) -> bool:
+    """Tells whether a line is of the speed of a run, its step or its saturation flow."""
+    return any(it in line for it in ("simulated seconds in one", "steps of 1 s lower", "saturation flow"))
 
 
 def here(*words: object) -> Ran:

@@ -5,14 +5,16 @@ import json
 import pytest
 
 from streettools.cosim import comparing
+from streettools.cosim.comparing import read_comparison, without_walks
 from streettools.shared.fault import Fault
 
-from .conftest import PROGRAM, STREET, TEE, cosim, needs_sumo
+from .conftest import PROGRAM, STREET, TEE, change, cosim, needs_sumo
 
 HEAD = f"""sumo = "{TEE / 'tee.sumocfg'}"
 map = "{TEE / 'tee.map.toml'}"
 seeds = [1, 2]
 seconds = 60
+step = 1
 warm = 5
 routes = ["east"]
 """
@@ -26,15 +28,16 @@ def plan(name: str, more: str = "") -> str:
 @needs_sumo
 def test_a_plan_differs_from_itself_by_nothing_and_sumos_controllers_run_beside_it(tmp_path):
     path = tmp_path / "plans.toml"
-    path.write_text(HEAD + plan("one") + plan("the same") + plan("actuated", 'controller = "actuated"'))
+    path.write_text(HEAD + plan("one") + plan("the same") + plan("actuated", 'controller = "actuated"')
+                    + plan("static", 'controller = "static"'))  # fmt: skip
     ran = cosim("compare", path, "-o", tmp_path / "out")
     assert ran.status == 0, ran
     rows = json.loads((tmp_path / "out/comparison.json").read_text())["rows"]
     of = {(it["plan"], it["group"]): it for it in rows}
-    assert {name for name, _ in of} == {"one", "the same", "actuated"}
+    assert {name for name, _ in of} == {"one", "the same", "actuated", "static"}
     assert of["one", "east"]["more_delay"] is None
     assert of["the same", "east"]["more_delay"] == of["the same", "all vehicles"]["more_stops"] == [0.0, 0.0]
-    assert len({of[name, "all vehicles"]["trips"] for name in ("one", "actuated")}) == 1
+    assert len({of[name, "all vehicles"]["trips"] for name in ("one", "actuated", "static")}) == 1
     assert "paired by seed" in ran.out and sorted(it.name for it in (tmp_path / "out").iterdir()) == [
         "comparison.json",
         "comparison.txt",
@@ -54,6 +57,41 @@ def test_sumos_nema_controller_runs_the_same_street(tmp_path):
     rows = json.loads((tmp_path / "out/comparison.json").read_text())["rows"]
     own, nema = (it["delay"][0] for it in rows if it["group"] == "all vehicles")
     assert nema == pytest.approx(own, rel=0.5)
+
+
+@needs_sumo
+def test_plans_may_have_maps_of_their_own(tmp_path):
+    """The left turn protected only, and permissive in addition."""
+    text = (TEE / "tee.map.toml").read_text()
+    own = 'name = "WBL"\nphase = 1\n'
+    assert own in text
+    (tmp_path / "both.map.toml").write_text(text.replace(own, own + "permissive = 2\n"))
+    path = tmp_path / "plans.toml"
+    head = HEAD.replace("[1, 2]", "[1]").replace("seconds = 60", "seconds = 300")
+    path.write_text(head + plan("protected") + plan("permissive", f'map = "{tmp_path / "both.map.toml"}"'))
+    ran = cosim("compare", path, "-o", tmp_path / "out")
+    assert ran.status == 0, ran
+    rows = json.loads((tmp_path / "out/comparison.json").read_text())["rows"]
+    delay = {it["plan"]: it["delay"][0] for it in rows if it["group"] == "all vehicles"}
+    assert delay["permissive"] < delay["protected"]
+    path.write_text(HEAD + plan("one") + plan("two", 'map = "none.toml"'))
+    assert cosim("compare", path, "-o", tmp_path / "out").status == 1
+
+
+PERSON = '<person id="p.0" depart="5"><walk from="in-north" to="out-west"/></person></routes>'
+
+
+@needs_sumo
+def test_controllers_without_walk_times_are_left_out_where_persons_walk(tee):
+    change(tee / "tee.rou.xml", "</routes>", PERSON)
+    path = tee / "plans.toml"
+    head = HEAD.replace(str(TEE), str(tee))
+    path.write_text(head + plan("one") + plan("same") + plan("actuated", 'controller = "actuated"'))
+    comparison, left = without_walks(read_comparison(path))
+    assert left == ["actuated"] and [it.name for it in comparison.plans] == ["one", "same"]
+    path.write_text(head + 'against = "nema"\n' + plan("one") + plan("same") + plan("nema", 'controller = "nema"'))
+    ran = cosim("compare", path, "-o", tee / "out")
+    assert ran.status == 2 and "nema: SUMO's own controllers have no walk times, and persons walk here" in ran.said[0]
 
 
 @pytest.mark.parametrize(

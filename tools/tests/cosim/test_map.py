@@ -13,9 +13,9 @@ from streettools.cosim.mapping import read_map
 
 from .conftest import STREET, TEE, change, cosim, here, needs_sumo, run_tee
 
-NEMA = {"EBL": 5, "EBT": 2, "WBL": 1, "WBT": 6, "NBL": 7, "NBT": 4, "SBL": 3, "SBT": 8}
-"""The usual numbers: phase 2 eastbound, left turns opposite to their straight ways, 4 northbound."""
-BESIDE = {"ped S": 2, "ped N": 6, "ped E": 4, "ped W": 8}
+NEMA = {"EBL": 5, "EBT": 2, "WBL": 1, "WBT": 6, "NBL": 3, "NBT": 8, "SBL": 7, "SBT": 4}
+"""The numbers of the Highway Capacity Manual (exhibit of phases and movements): phase 2 eastbound, 8 northbound."""
+BESIDE = {"ped S": 2, "ped N": 6, "ped E": 8, "ped W": 4}
 """Persons walk along with the traffic that has them on its right."""
 
 
@@ -32,7 +32,7 @@ def test_a_street_gets_the_phases_of_nema():
         found = phases(ran.out, signal)
         assert {name: found[name] for name in NEMA} == NEMA
         assert {name: found[name] for name in BESIDE} == BESIDE
-        assert {name: found[name] for name in ("EBR", "WBR", "NBR", "SBR")} == {"EBR": 2, "WBR": 6, "NBR": 4, "SBR": 8}
+        assert {name: found[name] for name in ("EBR", "WBR", "NBR", "SBR")} == {"EBR": 2, "WBR": 6, "NBR": 8, "SBR": 4}
 
 
 def test_the_main_street_may_be_named():
@@ -41,11 +41,11 @@ def test_the_main_street_may_be_named():
 
 
 def test_the_stem_of_a_t_is_one_phase_and_partners_are_idle():
-    """docs/SCENARIO.md: the stem is phase 4, and its partner 8 has no traffic."""
+    """The stem drives north: phase 8, and its partner 4 has no traffic."""
     text = cosim("map", TEE / "tee.net.xml").out
     found = phases(text, "t")
-    assert (found["NBL"], found["NBR"], found["EBT"], found["WBT"], found["WBL"]) == (4, 4, 2, 6, 1)
-    assert tomllib.loads(text)["signal"][0]["idle"] == [3, 5, 7, 8]
+    assert (found["NBL"], found["NBR"], found["EBT"], found["WBT"], found["WBL"]) == (8, 8, 2, 6, 1)
+    assert tomllib.loads(text)["signal"][0]["idle"] == [3, 4, 5, 7]
 
 
 def test_the_maps_that_stand_here_are_those_that_the_tool_writes():
@@ -83,7 +83,9 @@ def test_what_cant_be_told_is_asked_for_and_can_be_answered(five):
     assert '"?"' in ran.out
     places = [line.rpartition("--phase '")[2].removesuffix("=N')") for line in asked]
     answers = [word for place in places for word in ("--phase", f"{place}=2")]
-    assert '"?"' not in cosim("map", five, *answers).out
+    ran = cosim("map", five, *answers)
+    assert '"?"' not in ran.out and ran.status == 2
+    assert all(" cross, and " in line for line in ran.said)
 
 
 @needs_sumo
@@ -129,14 +131,14 @@ def test_a_link_without_a_phase_is_refused(tee):
 
 @needs_sumo
 def test_a_phase_without_a_link_is_refused(tee):
-    change(tee / "tee.map.toml", "idle = [3, 5, 7, 8]", "idle = [3, 7, 8]")
+    change(tee / "tee.map.toml", "idle = [3, 4, 5, 7]", "idle = [3, 4, 7]")
     assert "phase 5 of cabinet 1 has no link" in refused(tee)
 
 
 @needs_sumo
 def test_two_conflicting_links_on_one_phase_are_refused(tee):
     change(tee / "tee.map.toml", 'name = "WBL"\nphase = 1', 'name = "WBL"\nphase = 2')
-    change(tee / "tee.map.toml", "idle = [3, 5, 7, 8]", "idle = [1, 3, 5, 7, 8]")
+    change(tee / "tee.map.toml", "idle = [3, 4, 5, 7]", "idle = [1, 3, 4, 5, 7]")
     change(tee / "tee.map.toml", "[[signal.detector]]\nphase = 1", "[[signal.detector]]\nphase = 2")
     line = refused(tee)
     assert "WBL (in-west_3 out-south_1)" in line and "cross, and both have phase 2" in line
@@ -145,7 +147,7 @@ def test_two_conflicting_links_on_one_phase_are_refused(tee):
 @needs_sumo
 def test_conflicting_links_on_phases_that_may_be_on_at_once_are_refused(tee):
     change(tee / "tee.map.toml", 'name = "WBL"\nphase = 1', 'name = "WBL"\nphase = 5')
-    change(tee / "tee.map.toml", "idle = [3, 5, 7, 8]", "idle = [1, 3, 7, 8]")
+    change(tee / "tee.map.toml", "idle = [3, 4, 5, 7]", "idle = [1, 3, 4, 7]")
     change(tee / "tee.map.toml", "[[signal.detector]]\nphase = 1", "[[signal.detector]]\nphase = 5")
     line = refused(tee)
     assert "may be on at once" in line and "WBL" in line and "EB" in line
@@ -155,7 +157,7 @@ def test_left_turns_may_be_permissive_under_the_phase_from_opposite():
     """Those of phase 2 turn left on 5 and meet 6, and so on; of the stem of a T nobody comes from opposite."""
     text = cosim("map", STREET / "street.net.xml", "--main", "E", "--permissive").out
     found = {it["name"]: it.get("permissive") for it in tomllib.loads(text)["signal"][0]["movement"]}
-    assert {name: it for name, it in found.items() if it} == {"EBL": 6, "WBL": 2, "NBL": 8, "SBL": 4}
+    assert {name: it for name, it in found.items() if it} == {"EBL": 6, "WBL": 2, "NBL": 4, "SBL": 8}
     text = cosim("map", TEE / "tee.net.xml", "--permissive").out
     found = {it["name"]: it.get("permissive") for it in tomllib.loads(text)["signal"][0]["movement"]}
     assert {name: it for name, it in found.items() if it} == {"WBL": 2}
@@ -177,7 +179,7 @@ def test_a_permissive_turn_that_meets_traffic_to_which_it_doesnt_yield_is_refuse
     """The main street's left turn gives way to who comes from opposite (6), not to the side street (8 beside 4)."""
     assert checked(tmp_path, 6) == ""
     line = checked(tmp_path, 4)
-    assert "EBL (e0_3 up0_2)" in line and "cross, and phases" in line and "may be on at once" in line
+    assert "EBL (e0_3 up0_2)" in line and "SBT (s0_1 down0_1)" in line and "cross, and both have phase 4" in line
 
 
 @needs_sumo

@@ -1,10 +1,12 @@
 """What is read of a network, beside what SUMO itself says of it: its default programs, which its netconvert makes."""
 
+import gzip
 import itertools
 
 import pytest
 
 from streettools.cosim import network
+from streettools.shared.fault import Fault
 
 from .conftest import STREET, TEE
 
@@ -40,3 +42,30 @@ def test_the_way_over_a_junction_is_that_between_the_stop_lines():
     """The stop lines of e0 and e1 are 280 m apart: an edge and the junction before it."""
     known = network.read(STREET / "street.net.xml")
     assert known.edges["e1"].length + known.inner["e0", "e1"].metres == pytest.approx(280, abs=0.1)
+
+
+@pytest.mark.parametrize(("before", "after", "line"), [
+    (' length="', ' size="', "lane without length"), (' index="', ' place="', "without index"),
+    ("<edge id=", "<edge name=", "edge without id"), (' toLane="', ' lane="', "is missing"),
+    (' speed="', ' speed="fast', "could not convert"), ("UTF-8", "UTF-99", "unknown encoding"),
+])  # fmt: skip
+def test_a_network_that_lacks_what_a_network_has_is_refused_in_one_line(tmp_path, before, after, line):
+    path = tmp_path / "x.net.xml"
+    text = (TEE / "tee.net.xml").read_text()
+    assert before in text
+    path.write_text(text.replace(before, after))
+    with pytest.raises(Fault) as refused:
+        network.read(path)
+    said = str(refused.value)
+    assert said.startswith((f"{path}: no network of SUMO: ", f"{path}: no XML: "))
+    assert line in said and "\n" not in said
+
+
+def test_a_network_that_is_not_compressed_as_its_name_says_is_refused_in_one_line(tmp_path):
+    """No file of gzip, one that is cut off, one with a damaged octet."""
+    packed = gzip.compress((TEE / "tee.net.xml").read_bytes())
+    for octets in (b"<net/>", packed[:-50], packed[:40] + b"\xff\xff" + packed[42:], b""):
+        (tmp_path / "x.net.xml.gz").write_bytes(octets)
+        with pytest.raises(Fault) as refused:
+            network.read.__wrapped__(tmp_path / "x.net.xml.gz")
+        assert "\n" not in str(refused.value)

@@ -101,9 +101,21 @@ def test_a_train_is_a_preempt_on_and_off(street):
 def test_persons_press_buttons_and_walk(street):
     scenario = json.loads((street / "session.trace").read_bytes().split(b"\n", 1)[0][2:])
     pressed = {(it["cabinet"], it["ped"]) for it in scenario["inputs"] if "ped" in it}
-    assert pressed and pressed <= {(2, 4), (3, 2)}
+    assert pressed and pressed <= {(2, 8), (3, 2)}
     persons = [it for it in study_of(street).trips if it.kind is Kind.PERSON]
-    assert any(it.arrive is not None for it in persons)
+    assert any(it.passages for it in persons)
+
+
+def test_the_trip_of_a_person_is_the_whole_way_and_its_delay_the_waits_at_crossings(street):
+    told = {it.get("id"): it for it in xml.parse(street / "tripinfo.xml").getroot() if it.tag == "personinfo"}
+    persons = [it for it in study_of(street).trips if it.kind is Kind.PERSON]
+    assert persons
+    for it in persons:
+        walk = told[it.vehicle].find("walk")
+        assert it.depart == pytest.approx(float(told[it.vehicle].get("depart")))
+        ended = float(walk.get("arrival", -1))
+        assert it.arrive == (None if ended < 0 else pytest.approx(ended))
+        assert it.delay == pytest.approx(sum(row.released - row.arrived for row in it.passages), abs=0.01)
 
 
 def test_the_report_stands_beside_the_trace(street):
@@ -170,7 +182,7 @@ def wait_for(is_so, running):
 
 
 ALL_GREEN = """#!/usr/bin/python3
-# speaks the dialogue of a session, and shows phases 2 and 4 green at once from tick 200 on
+# speaks the dialogue of a session, and shows phases 2 and 8 green at once from tick 200 on
 import sys
 def say(*lines):
     sys.stdout.write("".join(line + "\\n" for line in (*lines, ".")))
@@ -184,7 +196,7 @@ for line in sys.stdin:
     if words[0] == "tick":
         tick += int(words[1])
         if tick == 200:
-            lines.append("F 1 200 RGRGRGRRRRRRRRRR DDDDDDDDDDDDDDDD F 0 0 0")
+            lines.append("F 1 200 RGRRRGRGRRRRRRRR DDDDDDDDDDDDDDDD F 0 0 0")
         lines += [f"J 1 4*10", f"R {tick // 10 + 1}"]
     say(*lines)
 say("J 1 4*10", f"Z {tick // 10 + 1}")
@@ -205,7 +217,7 @@ def test_what_cant_be_read_is_one_line(tee):
     for words, line in (
         (["--sumo", tee / "none.sumocfg"], "No such file"),
         (["--map", tee / "none.toml"], "No such file"),
-        (["--scenario", tee / "tee.map.toml"], "not JSON"),
+        (["--scenario", tee / "tee.net.xml"], "not JSON"),
         (["--program", tee / "none"], "no program at"),
     ):
         ran = run_tee(tee, *words)

@@ -8,7 +8,7 @@ import pytest
 from streettools.cosim import detectors, network
 from streettools.cosim.checks import yielding_in
 from streettools.cosim.faults import Conflict
-from streettools.cosim.map_making import Maker
+from streettools.cosim.map_making import Maker, Said
 from streettools.cosim.mapping import Overlap, read_map
 from streettools.cosim.overlaps import OverlapLight
 from streettools.cosim.signals import Signals, Watch
@@ -89,7 +89,7 @@ def test_a_link_that_yields_may_be_on_beside_its_foe_only_where_their_phases_may
     street."""
     known = network.read(TEE / "tee.net.xml")
     street = read_map(TEE / "tee.map.toml")
-    may_yield = yielding_in(street, {"cabinets": [{}]})
+    may_yield = yielding_in(street, known, {"cabinets": [{}]})
     by_name = {link.name: link.index for link in known.links["t"]}
     places = {it.name: [by_name[name] for name in it.links] for it in street.signals[0].movements}
 
@@ -144,7 +144,7 @@ def letters(sumo: Shown, street, known, signal: str = "c0") -> dict[str, str]:
 def permissive(tmp_path):
     """Returns the street with left turns that are protected by their own phase and permissive under the opposite's."""
     known = network.read(STREET / "street.net.xml")
-    (tmp_path / "map.toml").write_text(Maker(known, 1, {}, is_permissive=True).text("street.net.xml"))
+    (tmp_path / "map.toml").write_text(Maker(known, Said(1, is_permissive=True)).text("street.net.xml"))
     return known, read_map(tmp_path / "map.toml")
 
 
@@ -162,7 +162,7 @@ def test_a_left_turn_is_protected_by_its_own_phase_and_yields_under_the_opposite
 
 def test_the_watch_lets_a_permissive_left_turn_yield_and_refuses_one_that_has_way(permissive):
     known, street = permissive
-    may_yield = yielding_in(street, {"cabinets": [{}] * 4})
+    may_yield = yielding_in(street, known, {"cabinets": [{}] * 4})
     places = {link.name: link.index for link in known.links["c0"]}
     (own,) = (it for it in street.signals if it.id == "c0")
     of = {it.name: [places[name] for name in it.links] for it in own.movements}

@@ -33,7 +33,7 @@ cabinet = 1
 number = 3
 vehicles = ["emergency"]
 ahead = {AHEAD}
-phases = [4]
+phases = [8]
 
 [[preempt]]
 cabinet = 1
@@ -49,7 +49,7 @@ TRAIL, YELLOW, RED = 2, 31, 9
 @pytest.fixture(scope="module")
 def folder(tmp_path_factory) -> pathlib.Path:
     """Returns the folder of the T-intersection after a run of 120 s. The left turn into the stem is permissive under
-    phase 2, the right turn out of it is an overlap of phases 4 and 1."""
+    phase 2, the right turn out of it is an overlap of phases 8 and 1."""
     tee = tmp_path_factory.mktemp("turns") / "tee"
     shutil.copytree(TEE, tee)
     (tee / "tee.rou.xml").write_text(TRAFFIC)
@@ -58,7 +58,7 @@ def folder(tmp_path_factory) -> pathlib.Path:
     change(tee / "tee.sumocfg", "</configuration>", '<output><fcd-output value="fcd.xml"/></output></configuration>')
     change(tee / "tee.map.toml", 'name = "WBL"\nphase = 1', 'name = "WBL"\nphase = 1\npermissive = 2')
     times = f"trail = {TRAIL}\nyellow = {YELLOW}\nred = {RED}"
-    change(tee / "tee.map.toml", 'name = "NBR"\nphase = 4', f'name = "NBR"\nparents = [4, 1]\n{times}')
+    change(tee / "tee.map.toml", 'name = "NBR"\nphase = 8', f'name = "NBR"\nparents = [8, 1]\n{times}')
     (tee / "tee.map.toml").write_text((tee / "tee.map.toml").read_text() + PREEMPT)
     change(tee / "tee.json", "{}", json.dumps({"cells": CELLS}))
     ran = run_tee(tee, "--seconds", SECONDS)
@@ -95,7 +95,7 @@ def test_a_left_turn_has_way_under_its_phase_and_yields_under_the_one_from_oppos
 
 
 def test_an_overlap_shows_what_arterial_overlaps_says_of_the_trace(folder):
-    words = ["--cabinet", "1", "--parents", "0401", "--trail", TRAIL, "--yellow", YELLOW, "--red", RED]
+    words = ["--cabinet", "1", "--parents", "0801", "--trail", TRAIL, "--yellow", YELLOW, "--red", RED]
     trace = (folder / "out/session.trace").read_bytes()
     command = [PROGRAM, "overlaps", *map(str, words)]
     said = subprocess.run(command, input=trace, capture_output=True, check=True).stdout.decode()

@@ -11,7 +11,7 @@ from hypothesis import given
 from hypothesis.strategies import data
 from streettools.plan import book, book_reading, check, explain, names, reading, sources, toml_text, utdf_in, utdf_out
 from streettools.plan import utdf_text, walk, writing
-from streettools.plan.given import Unreadable
+from streettools.shared.given import Unreadable
 from streettools.shared.fault import Fault
 
 from .conftest import TOP

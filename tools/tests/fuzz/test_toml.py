@@ -1,11 +1,14 @@
-"""Studies, maps, comparisons and volumes that are damaged: `sweep` and `cosim` take them or refuse them in one line."""
+"""Studies, maps, comparisons, volumes and networks that are damaged: `sweep` and `cosim` take them or refuse them in
+one line."""
 
 import os
 import pathlib
 import tomllib
 
 from hypothesis import given
+from streettools.cosim import network
 from streettools.cosim.comparing import jobs_of, read_comparison
+from streettools.cosim.drive import read_config
 from streettools.cosim.mapping import read_map
 from streettools.cosim.queues.volumes import volumes_of
 from streettools.shared.fault import Fault
@@ -56,8 +59,11 @@ pattern = 1
 """
 STUDIES = [STUDY.encode(), *(path.read_bytes() for path in sorted(FOLDER.glob("*.toml")))]
 VOLUMES = [path.read_bytes() for path in sorted((TOP / "scenarios").glob("*.volumes.toml"))]
-SUMO = sorted((TOP / "scenarios/sumo").rglob("*.toml"))
+SUMO_FOLDER = TOP / "scenarios/sumo"
+SUMO = sorted(SUMO_FOLDER.rglob("*.toml"))
 MAPS = [path.read_bytes() for path in SUMO if path.name.endswith(".map.toml")]
+NETWORKS = [path.read_bytes() for path in SUMO_FOLDER.rglob("tee.net.xml")]
+CONFIGS = [path.read_bytes() for path in sorted(SUMO_FOLDER.rglob("*.sumocfg"))]
 COMPARISONS = [path.read_bytes() for path in SUMO if not path.name.endswith(".map.toml")]
 
 
@@ -151,3 +157,25 @@ def test_damaged_comparisons(tmp_path_factory, content):
         jobs_of(read_comparison(folder / "compare.toml"), None, folder / "out", False)
     except Fault as fault:
         assert str(fault)
+
+
+@tried(150)
+@given(damaged(NETWORKS))
+def test_damaged_networks(tmp_path_factory, content):
+    path = tmp_path_factory.getbasetemp() / "x.net.xml"
+    path.write_bytes(content)
+    try:
+        network.read.__wrapped__(path)
+    except Fault as fault:
+        assert str(fault) and "\n" not in str(fault)
+
+
+@tried(300)
+@given(damaged(CONFIGS))
+def test_damaged_configurations_of_sumo(tmp_path_factory, content):
+    path = tmp_path_factory.getbasetemp() / "x.sumocfg"
+    path.write_bytes(content)
+    try:
+        read_config(path)
+    except Fault as fault:
+        assert str(fault) and "\n" not in str(fault)

@@ -4,6 +4,7 @@ import gzip
 import os
 import shutil
 import subprocess
+import tomllib
 
 import pytest
 
@@ -74,6 +75,15 @@ def test_the_installed_program_takes_files_and_tools_and_needs_no_kit(whole, tmp
         "",
         "arterial: the program is installed here, and proved in a checkout\n",
     )
+
+
+def test_the_installed_package_finds_the_installed_program_and_its_proof(whole, tmp_path):
+    to = tmp_path / "prefix"
+    done(whole.top / "tools/install", "--prefix", to)
+    (site,) = (to / "lib").glob("python3.*/site-packages")
+    asked = "import arterial; it = arterial.program(); print(it.path, it.is_proved, len(arterial.env.__doc__) > 9)"
+    said = done("/usr/bin/python3", "-B", "-c", asked, env={"PYTHONPATH": str(site), "PATH": "/usr/bin:/bin"}, cwd="/")
+    assert said == (0, f"{to}/lib/arterial/arterial True True\n", "")
 
 
 def test_what_was_installed_is_removed_and_nothing_else(whole, tmp_path):
@@ -148,8 +158,16 @@ def test_a_package_names_its_commit_and_what_it_needs_and_is_the_same_each_time(
         and "Depends: libc6 " in told
         and "python3" in told
     )
+    listed = tomllib.loads((TOP / "tools/packages.toml").read_text())["package"]
+    for field, groups in (("Recommends", ("tools", "page")), ("Suggests", ("traffic",))):
+        names = done("dpkg-deb", "--field", first, field)[1].strip().split(", ")
+        assert names == [it["name"] for it in listed if it["group"] in groups] and "python3-aiohttp" in told
     assert "root/root" in done("dpkg-deb", "--contents", first)[1]
     with open(first, "rb") as one, open(second, "rb") as two:
         assert one.read() == two.read()
     subprocess.run(["dpkg-deb", "--extract", first, tmp_path / "root"], check=True)
     assert done(tmp_path / "root/usr/bin/arterial", "generate", input="") == (7, "words generate\n", "")
+    site = tmp_path / "root/usr/lib/python3/dist-packages"
+    asked = "import arterial; print(arterial.program().is_proved, arterial.live.__name__)"
+    said = done("/usr/bin/python3", "-B", "-c", asked, env={"PYTHONPATH": str(site), "PATH": "/usr/bin:/bin"}, cwd="/")
+    assert said == (0, "True live\n", "")

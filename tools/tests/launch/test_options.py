@@ -11,7 +11,8 @@ from .conftest import TOP
 sys.path.insert(0, str(TOP / "tools"))
 
 from streettools import words  # noqa: E402
-from streettools.shared.clock import of_day, run_seconds, run_ticks  # noqa: E402
+from streettools.shared.clock import at, of_day, placed, run_ticks  # noqa: E402
+from streettools.shared.fault import Fault  # noqa: E402
 from streettools.shared.commandline import Parser, add_output, add_renamed  # noqa: E402
 
 TRACE = TOP / "tools/tests/look/traces/mixed.trace"
@@ -80,12 +81,42 @@ def test_a_hyphen_is_standard_input(monkeypatch, capsys):
         assert ended(["look", "report", "--no-check", "-"], capsys) == report
 
 
+@pytest.mark.parametrize("tool", ["street", "cabinet"])
+def test_a_hyphen_is_standard_input_for_a_scenario(tool, monkeypatch, capsys):
+    monkeypatch.setenv("ARTERIAL_PROGRAM", str(TOP / "model/program"))
+    monkeypatch.setattr(sys, "stdin", io.TextIOWrapper(io.BytesIO(b"nonsense")))
+    assert ended([tool, "--scenario", "-"], capsys) == (2, "", f"{tool}: scenario: not JSON\n")
+
+
 TIMES = [("90", 900), ("90.5", 905), ("0", 0), ("900t", 900), ("1:30", 900), ("1:30.5", 905), ("1:01:30", 36_900)]
 
 
 @pytest.mark.parametrize(("text", "ticks"), TIMES)
 def test_a_time_of_a_run_is_seconds_a_clock_or_ticks(text, ticks):
-    assert run_ticks(text) == ticks and run_seconds(text) == ticks / 10
+    assert run_ticks(text) == ticks
+    assert placed(at(text), None, 0, 50_000) == ticks
+
+
+@pytest.mark.parametrize(
+    ("text", "start", "clock", "tick"),
+    [
+        # a run of an hour from 7:00 on whose axis has times of day
+        ("07:05", 25_200, 252_000, 3000), ("7:05:00.5", 25_200, 252_000, 3005), ("90", 25_200, 252_000, 900),
+        ("900t", 25_200, 252_000, 900), ("08:00", 25_200, 252_000, 36_000),
+        # the same, with the time since the start on its axis
+        ("1:30", None, 252_000, 900), ("07:05:00", None, 252_000, 3000), ("0:30:00", None, 252_000, 18_000),
+        # over midnight
+        ("00:01", 86_340, 0, 1200),
+    ],
+)  # fmt: skip
+def test_a_time_with_a_colon_is_what_the_axis_shows(text, start, clock, tick):
+    assert placed(at(text), start, clock, 36_000) == tick
+
+
+@pytest.mark.parametrize(("text", "start"), [("06:59", 25_200), ("1:30", 25_200), ("09:00:00", None)])
+def test_a_time_of_day_that_the_run_hasnt_is_refused_with_those_that_it_has(text, start):
+    with pytest.raises(Fault, match=f"{text} is not in the run, which is from 07:00:00 to 08:00:00"):
+        placed(at(text), start, 252_000, 36_000)
 
 
 @pytest.mark.parametrize("text", ["", "x", "-1", "90.55", "1:3", "nan", "inf", "1e99", "0.5t", "1:2:3:4", "9" * 5000])

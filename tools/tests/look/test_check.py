@@ -67,7 +67,7 @@ def test_a_text_that_cannot_be_read_is_refused_by_the_check_first(stand_in):
     ran = run("report", given=SMALL.replace("R 3", "R 4"), env=stand_in(5, "trace: line 8 breaks rule 2"))
     assert ran.returncode == 2 and ran.stderr.startswith("look: checked: standard input is not a trace (trace: line 8 ")
     ran = run("rings", "--cabinet", "2", "-o", "x.svg", given=SMALL, env=stand_in(0))
-    words = ["look: checked: standard input is a trace", "look: the trace has no cabinet 2"]
+    words = ["look: checked: standard input is a trace", "look: the trace has no cabinet 2: its cabinets are 1 to 1"]
     assert (ran.returncode, ran.stderr.splitlines()) == (2, words)
 
 

@@ -129,6 +129,27 @@ def test_a_partner_that_is_coordinated_is_left_out(planned, drawn, look, capsys)
     assert found.texts["Main St & $1 Alley (cabinet 2): the offset, ticks 0 to 2400"] == 1
 
 
+def test_names_start_and_travel_come_from_the_file_that_has_the_name_of_the_trace(planned, drawn, tmp_path, capsys):
+    """The run starts at 0:01:24 and has 4 minutes: from 0:02 to 0:03 is from second 36 to 96. The sheet has 20 s of
+    travel; a cabinet is named by a part of its name."""
+    sheet = COORDINATED.replace('name = "Main St & 1st Ave"', 'name = "Main St & 1st Ave"\ntravel = 20')
+    text, _ = planned(sheet, coordinated())
+    trace = tmp_path / "street.trace"
+    trace.write_text(text)
+    capsys.readouterr()
+    found = drawn("rings", "--cabinet", "alley", "--from", "00:02", "--to", "00:03", trace)
+    assert found.texts["Main St & $1 Alley (cabinet 2): rings, ticks 360 to 960"] == 1
+    assert found.texts["00:02:00"] == 1 and found.texts["time of day (hours:minutes:seconds)"] == 1
+    found = drawn("coordination", "--cabinets", "1st Ave,Alley", trace)
+    assert found.texts["20 s away"] == 1 and found.texts["outbound band"] == 1
+    dated, timed = (run("events", "--start", it, trace).stdout for it in ("2026-11-27", "2026-11-27T00:01:24"))
+    assert dated == timed and len(dated.splitlines()) > 5
+    ran = run("rings", "--cabinet", "elm", "-o", tmp_path / "x.svg", trace)
+    assert ran.returncode == 2 and "no cabinet named 'elm': there are 'Main St & 1st Ave', 'Main St & $1" in ran.stderr
+    ran = run("rings", "--from", "07:00", "-o", tmp_path / "x.svg", trace)
+    assert ran.returncode == 2 and "07:00 is not in the run, which is from 00:01:24 to 00:05:24" in ran.stderr
+
+
 def test_the_event_log_has_no_row_of_a_partner(planned, capsys):
     trace, names = planned(COORDINATED, coordinated())
     words = ("events", "--start", "2026-11-27T06:00:00")

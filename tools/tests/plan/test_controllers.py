@@ -14,7 +14,7 @@ from streettools.cabinet.messages import GET, GET_NEXT, field, integer, kind_of,
 from streettools.plan import live, reading, toml_text, walk
 from streettools.shared import oids
 from streettools.shared.cells import differing, kinds, tables_of, value
-from streettools.plan.given import Unreadable
+from streettools.shared.given import Unreadable
 from streettools.shared.tables import Tables
 
 from .conftest import SECONDS, TOP, plan

@@ -5,7 +5,7 @@ import json
 import pytest
 
 from streettools.plan import reading, toml_text, writing
-from streettools.plan.given import Unreadable
+from streettools.shared.given import Unreadable
 
 from .conftest import plan, said
 
@@ -91,11 +91,11 @@ def test_the_program_takes_the_scenario_of_a_day(week, program):
         ([("title =", 'schedule = [{at = 1, pattern = 1}]\ntitle =')],
          "schedule: day plans have schedules of their own"),
         ([("friday", "freitag")], "'freitag' is none of monday, tuesday"),
-        ([('"12-25"', '"25-12"')], "'25-12' is no date"),
+        ([('"12-25"', '"25-12"')], "'25-12' is not a date"),
         ([("2026-12-28", "2026-12-25")], "a date is said twice"),
         ([('days = "monday to friday"\n', "")], "say on which days it holds: days, dates"),
         ([('schedule = [{at = 08:00:00, pattern = 1}]', "")], "day_plan 3 (market), schedule: is missing"),
-        ([('dates = [2026-12-24, "12-25"]', "date = [2026-12-24]")], "date: no such name: dates?"),
+        ([('dates = [2026-12-24, "12-25"]', "date = [2026-12-24]")], "date: is unknown; did you mean dates?"),
     ],
 )  # fmt: skip
 def test_days_with_two_plans_or_without_one_are_errors(week, pairs, words):
@@ -141,7 +141,7 @@ def test_each_day_plan_is_checked(week):
 @pytest.mark.parametrize("words", [["2026-13-01"], ["tomorrow"], ["2026-2-29"]])
 def test_a_day_that_is_none_is_refused(week, words):
     ran = plan("day", week(), *words)
-    assert ran.returncode == 2 and b"is no date, as 2026-12-24" in ran.stderr
+    assert ran.returncode == 2 and b"is not a date, as 2026-12-24" in ran.stderr
 
 
 def test_a_sheet_without_day_plans_has_no_scenario_of_a_day(tmp_path):

@@ -10,7 +10,7 @@ import pytest
 
 from streettools.cabinet.messages import field, integer, name_of, reply_of, value_of
 from streettools.plan import live
-from streettools.plan.given import Unreadable
+from streettools.shared.given import Unreadable
 
 from .conftest import plan
 

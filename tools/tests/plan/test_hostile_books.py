@@ -9,7 +9,7 @@ import openpyxl
 import pytest
 
 from streettools.plan import book, book_reading, reading, toml_text
-from streettools.plan.given import Unreadable
+from streettools.shared.given import Unreadable
 
 from .conftest import SECONDS, TOP
 

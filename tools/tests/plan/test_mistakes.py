@@ -220,11 +220,11 @@ FOUND = {
     ),
     "travel times at the top": (
         {'units = "us"': "travel = [20]"},
-        "travel: error: no such name here: write it in [[intersection]]",
+        "travel: error: is unknown here; write it in [[intersection]]",
     ),
     "units by the name of a speed": (
         {'units = "us"': 'units = "mph"'},
-        "units: error: 'mph' is no system of units: write \"us\" for mph and feet, \"metric\" for km/h and metres",
+        "units: error: 'mph' is not a system of units: write \"us\" for mph and feet, \"metric\" for km/h and metres",
     ),
     "kilometres an hour without a word": (
         {"speed = 40, width = 60}": "speed = 70, width = 60, yellow = 6.2}"},

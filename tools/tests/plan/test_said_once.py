@@ -53,7 +53,7 @@ def test_run_takes_a_sheet_and_says_so(arterial, short, tmp_path):
     assert b"no detector calls" not in arterial("run", short).stderr
     (tmp_path / "bad.toml").write_text("[[intersection]]\ncolour = 1\n")
     bad = arterial("run", tmp_path / "bad.toml")
-    assert bad.returncode == 2 and bad.stdout == b"" and b"colour: error: no such name" in bad.stderr
+    assert bad.returncode == 2 and bad.stdout == b"" and b"colour: error: is unknown" in bad.stderr
 
 
 def test_look_takes_names_start_and_travel_from_the_sheet(arterial, short, tmp_path):

@@ -126,7 +126,7 @@ def test_one_address_for_several_intersections_is_refused(plans):
 
 def test_an_intersection_that_changes_needs_an_address_or_is_left_out_in_words(plans):
     ran = plan("loads", *plans, "--sets", "3=127.0.0.1:23163")
-    assert ran.returncode == 2 and b"intersection 2 (Harbor & Mill) changes, too, and has no address" in ran.stderr
+    assert ran.returncode == 2 and b"intersection 2 (Harbor & Mill) also changes, and has no address" in ran.stderr
     ran = plan("loads", *plans, "--sets", "3=127.0.0.1:23163", "--only", "3")
     assert ran.returncode == 0 and b"Harbor & Mill" not in ran.stdout and b"offset: 40 to 42" in ran.stdout
 

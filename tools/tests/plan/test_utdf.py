@@ -7,7 +7,7 @@ import pytest
 
 from streettools.plan import reading, utdf_in, utdf_out, utdf_text
 from streettools.shared.cells import differing, tables_of
-from streettools.plan.given import Unreadable
+from streettools.shared.given import Unreadable
 from streettools.plan.layout import concurrent
 
 from .conftest import TOP

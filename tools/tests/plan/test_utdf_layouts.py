@@ -8,7 +8,7 @@ import pytest
 
 from streettools.cosim.queues.volumes import volumes_of
 from streettools.plan import reading, toml_text, utdf_in, utdf_out, utdf_text, volumes_text, writing
-from streettools.plan.given import Unreadable
+from streettools.shared.given import Unreadable
 from streettools.shared.cells import tables_of
 
 from .conftest import TOP, plan, said
@@ -220,18 +220,18 @@ def test_the_command_writes_a_sheet_and_volumes_that_are_run(program, tmp_path):
 
 
 BAD = [
-    ("DontWalk,1,,11,", "DontWalk,1,,2x2,", "4 (D2): '2x2' is no number"),
-    ("Yellow,3,3.5,", 'Yellow,3,"4,9",', "3 (D1): '4,9' is no number: a decimal point, not a comma"),
+    ("DontWalk,1,,11,", "DontWalk,1,,2x2,", "4 (D2): '2x2' is not a number"),
+    ("Yellow,3,3.5,", 'Yellow,3,"4,9",', "3 (D1): '4,9' is not a number: a decimal point, not a comma"),
     ("Yellow,1,3.5,4,,3.5,3.5,4,,3.5", "Yellow,1,3,5,4,,3,5,3.5,4,,3.5",
      "12 (no header): '3.5' is after the last column of the header: a comma too many?"),
-    ("Cycle Length,3,90.0", "Cycle Length,3,9O", "3 (DATA): '9O' is no number"),
+    ("Cycle Length,3,90.0", "Cycle Length,3,9O", "3 (DATA): '9O' is not a number"),
     ("Referenced To,3,1", "Referenced To,3,7", "3 (DATA): reference point 7 is not known"),
     ("Control Type,1,3", "Control Type,1,9", "3 (DATA): control type 9 is not known"),
     ("Recall,1,0,1", "Recall,1,0,5", "4 (D2): recall 5 is not known"),
-    ("Volume,1,60", "Volume,1,many", "3 (NBL): 'many' is no number"),
-    ("Lanes,1,1,1", "Lanes,1,1,1.5", "4 (NBT): '1.5' is no whole number"),
-    ("Speed,3,30", "Speed,3,nan", "3 (NB): 'nan' is no number"),
-    ("Time,3,9.1,,8.5", "Time,3,9.1,,1e999", "5 (EB): '1e999' is no number"),
+    ("Volume,1,60", "Volume,1,many", "3 (NBL): 'many' is not a number"),
+    ("Lanes,1,1,1", "Lanes,1,1,1.5", "4 (NBT): '1.5' is not a whole number"),
+    ("Speed,3,30", "Speed,3,nan", "3 (NB): 'nan' is not a number"),
+    ("Time,3,9.1,,8.5", "Time,3,9.1,,1e999", "5 (EB): '1e999' is not a number"),
 ]  # fmt: skip
 
 

@@ -4,7 +4,7 @@ import json
 
 import pytest
 
-from streettools.plan import check, jsontext, names, reading, sources, street_facts, toml_text
+from streettools.plan import bands, check, jsontext, names, reading, sources, street_facts, toml_text
 from streettools.plan.findings import Level
 
 SCENARIO = {"version": 1, "rounds": 10, "ticks": 10, "cabinets": [{}]}
@@ -196,6 +196,17 @@ def test_offsets_that_leave_no_band_are_told(program):
     assert band_words(program, 0) == ["warning: the offsets of pattern 1 leave no through band, A to B or back"]
     assert band_words(program, 45) == []
     assert band_words(program, 30) == []
+
+
+def test_a_half_cycle_has_a_line_in_place_of_its_bands(program):
+    """A runs 90 s and B half of it: 24.5 s of green are not the same windows in both."""
+    half = FAR.replace("{travel}", "20") + "[[intersection]]\nname = \"C\"\n[intersection.pattern.1]\ncycle = 90\n"
+    half = half.replace('name = "B"', 'name = "B"\ntravel = 20').replace("cycle = 90\noffset = 45", "cycle = 45")
+    street = reading.street_of(toml_text.read(half))
+    assert [f"{it.level.value}: {it}" for it in bands.findings(street, str(program))] == [
+        "note: section 1: note: the bands of pattern 1 are not computed, since its cycles differ: 90 s, and 45 s at B. "
+        "`./look coordination` draws the bands of a run"
+    ]
 
 
 def test_a_plan_with_a_wrong_value_elsewhere_has_its_broken_rules_told_too(tmp_path):

@@ -11,6 +11,7 @@ from streettools.cosim.queues import study
 from streettools.cosim.queues.study import Asked
 from streettools.cosim.queues.volumes import volumes_of
 from streettools.shared.fault import Fault
+from streettools.sweep.files import Files
 from streettools.sweep.prepared import modules, prepared
 
 SCENARIO = {"version": 1, "rounds": 100, "ticks": 10, "cabinets": [{"pattern": 1}]}
@@ -102,3 +103,38 @@ def test_the_modules_that_a_worker_needs_go_along():
     given = modules()
     assert {"cosim/queues/study.py", "cosim/movements.py", "cosim/records.py", "cosim/__init__.py"} <= set(given)
     assert not any("pictures" in name and name.startswith("cosim") for name in given)
+
+
+SHEET = """
+[run]
+rounds = 60
+[[intersection]]
+name = "Oak"
+travel = 12
+rings = ["1 2 | 4", "6 | -"]
+[[intersection]]
+name = "Elm"
+rings = ["1 2 | 4", "6 | -"]
+"""
+
+
+def test_a_study_of_a_timing_sheet_takes_from_it_what_the_volumes_leave_out(program, tmp_path):
+    """The time of travel is that of the sheet, 12 s, and phase 8, which only the rings need, is idle."""
+    movements = '{ name = "EBT", phase = 2, volume = 900, to = "2 EB" }, { name = "WBT", phase = 6, volume = 9 }'
+    rest = '{ name = "WBL", phase = 1, volume = 9 }, { name = "NBL", phase = 4, volume = 9 }'
+    cabinets = [f"[[cabinet]]\nnumber = {number}\nmovements = [{movements}, {rest}]\n" for number in (1, 2)]
+    (tmp_path / "oak.toml").write_text(SHEET)
+    (tmp_path / "oak.volumes.toml").write_text(cabinets[0] + cabinets[1].replace(', to = "2 EB"', ""))
+    given = {"scenario": "oak.toml", "measures": ["vehicles"], "volumes": {"file": "oak.volumes.toml"}}
+    vary = [{"name": "offset", "cell": ["phase", 4, 6], "values": [20, 30]}]
+    files = Files(tmp_path)
+    study = prepared(given | {"vary": vary}, files, program)
+    assert set(files.read) == {"oak.toml", "oak.toml.facts", "oak.volumes.toml"}, "what the workers get"
+    built = study.builder.built(study.variants.at(0))
+    assert [it.onward.travel for it in built.queued.volumes.flows if it.onward] == [12.0]
+    assert built.queued.volumes.idle == {(1, 8), (2, 8)}
+    rows = [dict(zip(study.names()[1:], study.line(it, study.runner(False, 600).row(study.variants.at(it)))[1:]))
+            for it in (0, 1)]  # fmt: skip
+    assert all(it["outcome"] == "done" and it["vehicles"] > 5 for it in rows), rows
+    bands = prepared(given | {"vary": vary, "street": {}, "measures": ["band_outbound"]}, files, program)
+    assert bands.builder.built(bands.variants.at(0)).street.travel == (120,)

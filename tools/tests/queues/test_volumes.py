@@ -75,7 +75,7 @@ def changed(one: str, other: str, count: int = 1) -> str:
         ),
         (
             changed("volume = 600", "volume = -1"),
-            "volumes: cabinet[0].movements[0].volume is -1, and has to be 0 to 100000",
+            "volumes: cabinet 1, movement EBT: volume is -1, and has to be 0 to 100000",
         ),
         (changed("phase = 6", "phase = 9"), "volumes: WBT of cabinet 1: phase 9 is not enabled in cabinet 1"),
         (changed("number = 2", "number = 3"), "volumes: EBT of cabinet 3: the scenario has no cabinet 3"),
@@ -101,16 +101,16 @@ def changed(one: str, other: str, count: int = 1) -> str:
         ),
         (
             changed('to = "2 EB"', 'to = "next"'),
-            'volumes: cabinet[0].movements[0].to has to be a cabinet and an approach, as "2 EB"',
+            'volumes: cabinet 1, movement EBT: to has to be a cabinet and an approach, as "2 EB"',
         ),
         (
             changed("travel = 20, ", ""),
-            "volumes: cabinet[0].movements[0].travel is missing: the seconds from stop line to stop line",
+            "volumes: cabinet 1, movement EBT: travel is missing: the seconds from stop line to stop line",
         ),
         (changed('"WBT"', '"EBT"'), "volumes: cabinet 1 has two movements EBT"),
         (changed("volume = 500", "volume = 0"),
          "volumes: approach EB of cabinet 2 has no volumes, which are the shares of those who come from elsewhere"),
-        (changed("lanes = 2", "lane = 2"), "volumes: cabinet[0].movements[0].lane is unknown; did you mean lanes?"),
+        (changed("lanes = 2", "lane = 2"), "volumes: cabinet 1, movement EBT: lane is unknown; did you mean lanes?"),
         (
             changed("headway = 1.5", "headway = 40"),
             "volumes: NBT of cabinet 1: 100 vehicles an hour can't come 40 s apart in 1 lane",

@@ -7,7 +7,7 @@ import pytest
 from streettools.shared import program
 from streettools.shared.status import Status
 
-from .conftest import still_runs
+from .conftest import is_gone
 
 
 @pytest.fixture
@@ -55,7 +55,7 @@ def test_a_program_that_isnt_done_in_time_is_ended_with_all_it_started(script, t
     with pytest.raises(program.Late, match="check was not done in 0.3 s"):
         program.ran(path, "check", seconds=0.3)
     assert time.monotonic() - begun < 20
-    assert not still_runs(int((tmp_path / "pid").read_text()))
+    assert is_gone(int((tmp_path / "pid").read_text()))
 
 
 def test_a_program_that_nobody_waits_for_is_ended(script):

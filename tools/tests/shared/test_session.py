@@ -12,7 +12,7 @@ from streettools.shared.fault import Fault
 from streettools.shared.session import Answers, Rounds, Session
 from streettools.street import session as asked_by_many
 
-from .conftest import still_runs
+from .conftest import is_gone
 
 SCENARIO = {"version": 1, "rounds": 2, "ticks": 10, "cabinets": [{}]}
 FRAME = b"F 1 0 RRRRRRRRRRRRRRRR DDDDDDDDDDDDDDDD S 0 0 0"
@@ -31,7 +31,7 @@ def script(tmp_path):
         return path
 
     yield done
-    assert not any(map(still_runs, map(int, pids.read_text().split() if pids.exists() else ())))
+    assert all(map(is_gone, map(int, pids.read_text().split() if pids.exists() else ())))
 
 
 def open_session(path, seconds=20.0):

@@ -3,6 +3,7 @@
 import asyncio
 import json
 import re
+import sys
 import time
 
 import pytest
@@ -191,6 +192,46 @@ def test_messages_of_management_software_are_told_by_their_names(panel, browser)
     assert "Set systemPatternControl.0 = 256 badValue at 1" in text
 
 
+SHEET = """
+title = "Elm Street"
+[[intersection]]
+name = "Elm & Oak"
+travel = 22.5
+rings = ["1 2 | 4", "6 | -"]
+[intersection.phase]
+4 = {name = "Oak northbound"}
+[[intersection]]
+name = "Elm & 1st"
+travel = 18
+[[intersection]]
+name = "Elm & 2nd"
+"""
+
+
+def test_a_street_of_a_sheet_has_its_names_enabled_phases_and_times_of_travel(street, browser, tmp_path):
+    """Phase 8 is entered by the sheet: it is named as what it is. Of the standard table 9 to 16 aren't enabled. The
+    first intersection is drawn at the foot."""
+    (tmp_path / "elm.toml").write_text(SHEET)
+    running = street("--ports", 0, "--panel", 0, "--scenario", tmp_path / "elm.toml", "--speed", 5)
+    browser.get(running.told(r"panel at (http://\S+)")[1])
+    assert "Elm & Oak (cabinet 1)" in awaited(browser, "cards", "Elm & Oak")
+    values = "return [...document.querySelectorAll('#travel label')].map((it) => [it.innerText, it.lastChild.value])"
+    links = [(name.strip(), value) for name, value in browser.execute_script(values)]
+    assert links == [("Elm & Oak to Elm & 1st (s)", "22.5"), ("Elm & 1st to Elm & 2nd (s)", "18")]
+    browser.find_element("css selector", "#diagram text.row")
+    rows = "return [...document.querySelectorAll('#diagram text.row')]"
+    told = browser.execute_script(f"{rows}.map((it) => [it.textContent, it.getAttribute('y')])")
+    heights = {name: float(y) for name, y in told}
+    assert heights["Elm & Oak"] > heights["Elm & 1st"] > heights["Elm & 2nd"]
+    browser.execute_script("location.hash = '#1'")
+    text = awaited(browser, "phases", "Oak northbound")
+    assert awaited(browser, "cabinet-title", "cabinet 1") == "Elm & Oak (cabinet 1)"
+    listed = "return [...document.querySelectorAll('#phases tbody th')].map((it) => it.innerText)"
+    placeholder = "8 placeholder: only the rings need it"
+    assert browser.execute_script(listed) == ["1", "2", "4 Oak northbound", "6", placeholder]
+    assert "Oak northbound" in text_of(browser, "box-4"), text
+
+
 def test_time_is_paused_and_stepped(panel, browser):
     running, address = panel("--speed", 5)
     browser.get(address)
@@ -272,38 +313,79 @@ def test_what_pages_ask_is_recorded(panel, tmp_path):
     assert told == [{"cabinet": 1, "veh": 4, "on": True}, {"cabinet": 1, "ped": 8}]
 
 
+class Calls:
+    """Counts the functions that are called in a block, which doesn't depend on the pace of the machine."""
+
+    def __enter__(self):
+        self.count = 0
+        sys.setprofile(self.called)
+        return self
+
+    def called(self, frame, event, arg):
+        self.count += event in ("call", "c_call")
+
+    def __exit__(self, *fault):
+        sys.setprofile(None)
+
+
 def steps_of(work):
-    """Returns the processor seconds of each step of some work: between two steps the street does what is due else."""
-    seconds = []
+    """Returns how many functions each step of some work calls: between two steps the street does what is due else."""
+    found = []
     while True:
-        begun = time.process_time()
-        try:
-            work.send(None)
-        except StopIteration:
-            return seconds
-        finally:
-            seconds.append(time.process_time() - begun)
+        with Calls() as calls:
+            try:
+                work.send(None)
+            except StopIteration:
+                return found
+        found.append(calls.count)
 
 
-def test_no_step_of_the_work_for_pages_holds_the_street_up():
-    """With 64 cabinets, 20 minutes of greens, and 260 messages whose names have 1,400 arcs: each step of putting them
-    into words, of the greens, and of opening a page takes less than 5 ms of a processor."""
+LONG = message(GET, 1, [((1, 3, 6, 1, *[1] * 1396), None)])
+"""A Get with a name of 1,400 arcs."""
+
+
+@pytest.fixture
+def busy():
+    """The panel of 64 cabinets that had 20 minutes of greens and 260 long messages, none of them in words yet."""
     state = PanelState()
-    street = Street("none", {"version": 1, "rounds": 1, "ticks": 10, "cabinets": [{"pattern": 1}] * 64}, Pace(1), [])
     panel = Panel(state)
-    panel.street = street
-    state.began(street.scenario)
-    octets = message(GET, 1, [((1, 3, 6, 1, *[1] * 1396), None)])
-    for _ in range(260):
-        state.exchanged(1, octets, None)
+    scenario = {"version": 1, "rounds": 1, "ticks": 10, "cabinets": [{"pattern": 1}] * 64}
+    panel.street = Street("none", scenario, Pace(1), [])
+    state.began(panel.street.scenario)
+    with Calls() as calls:
+        for _ in range(260):
+            state.exchanged(1, LONG, None)
     for tick in range(0, 12_000, 100):
         for number in range(1, 65):
             lamps = "".join("G" if (tick // 100 + place) % 4 else "R" for place in range(16))
             state.take(f"F {number} {tick} {lamps} DDDDDDDDDDDDDDDD C 1 1 0")
     state.ticks = 12_000
-    words, greens = steps_of(state.put_in_words()), steps_of(state.greens())
-    assert len(words) == 201 and len(greens) == 65
-    opened = time.process_time()
-    text = json.dumps(panel.head() | panel.state())
-    assert sorted(words)[-2] < 0.005 and sorted(greens)[-2] < 0.005 and time.process_time() - opened < 0.01
-    assert len(text) < 200_000
+    return panel, calls.count / 260
+
+
+def test_a_message_is_not_put_into_words_while_it_is_answered(busy, monkeypatch):
+    """That a page shows a message costs its answer a dozen calls, however long it is; the 200 last ones are kept."""
+    panel, calls = busy
+    assert calls < 20
+    monkeypatch.setattr("streettools.street.panel.state.message_row", lambda *_: pytest.fail("put into words"))
+    panel.shown.heard(b"frame 1 priority " + LONG.hex().encode(), [b"A 1 261 -"])
+    assert len(panel.shown.asked) == 200 and not panel.shown.messages
+
+
+def test_each_step_of_the_work_for_pages_is_short(busy):
+    """A step puts one message into words, whose 1,400 arcs are read once, or has the greens of one cabinet."""
+    panel, _ = busy
+    words, greens = steps_of(panel.shown.put_in_words()), steps_of(panel.shown.greens())
+    assert len(words) == 200 and max(words) < 2000
+    assert len(greens) == 64 and max(greens) < 100
+    assert len(panel.shown.messages) == 200 and not panel.shown.asked
+
+
+def test_a_page_that_opens_puts_no_message_into_words(busy, monkeypatch):
+    """Messages are put into words once, not for each page; a long one is clipped, so a page's first text is short."""
+    panel, _ = busy
+    assert len(steps_of(panel.shown.put_in_words())) == 200
+    monkeypatch.setattr("streettools.street.panel.state.message_row", lambda *_: pytest.fail("put into words"))
+    with Calls() as calls:
+        text = json.dumps(panel.head() | panel.state())
+    assert calls.count < 500 and len(text) < 200_000

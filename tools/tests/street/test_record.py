@@ -8,7 +8,7 @@ import time
 import pytest
 from model.promises.judging import broken_promises
 from streettools.cabinet.messages import SET, message
-from streettools.street import record
+from streettools.shared import session_record
 from streettools.street.pace import Pace
 from streettools.street.record import Recorder
 from streettools.street.street import Street, rounds_for
@@ -145,7 +145,7 @@ def street_here(pace, hearers):
 
 
 def test_a_full_record_is_followed_by_another(tmp_path, monkeypatch):
-    monkeypatch.setattr(record, "FULL", 6e-6)
+    monkeypatch.setattr(session_record, "FULL", 6e-6)
     made = street_here(50, [Recorder(tmp_path / "session.trace")])
     asyncio.run(lived(made))
     assert made.renewals >= 1

@@ -84,11 +84,33 @@ def test_what_comes_before_the_beginning_is_not_counted():
     assert measured(PAIR, "on_offset_share", start=100) == 1.0
 
 
+class Shown:
+    """The greens of a cabinet, both ways alike."""
+
+    def __init__(self, spans: list[tuple[int, int]]) -> None:
+        self.pair, self.spans = (2, 6), (spans, spans)
+
+    def show(self, way: int, is_green: bool, tick: int) -> None:
+        """Has all greens already."""
+
+
+def test_bands_that_the_beginning_or_the_end_cuts_are_left_out():
+    """Greens of 34.5 s every 80 s; the run is measured from 15 s after the first began to 20 s after the last did."""
+    tally = StreetTally(Street(1, 1, ()), {}, {"cabinets": []}, 150)
+    tally.greens = {1: Shown([(800 * cycle, 800 * cycle + 345) for cycle in range(39)])}
+    counts = tally.close(800 * 38 + 200)
+    parts = [counts]
+    assert column_of("band_seen_outbound").measure.value(parts) == 34.5
+    assert counts.seen[0].count == 37
+    due = (195 + 37 * 345 + 200) / (800 * 38 + 200 - 150)
+    assert column_of("through_outbound").measure.value(parts) == round(due, 4)
+
+
 def test_bands_of_the_trace_by_hand():
     """Both cabinets are green from 60 to the end at 2400. 10 s of travel leave the starts 60 to 2300 outbound of
-    2300."""
+    2300; the end cuts this only band, so its width isn't known."""
     counts = counted(PAIR, street=Street(1, 1, (100,)))
-    assert column_of("band_seen_outbound").value(counts) == 224.0
+    assert column_of("band_seen_outbound").value(counts) is None
     assert column_of("through_outbound").value(counts) == 0.9739
     assert StreetTally(Street(2, 1, (100,)), {}, {"cabinets": [{}, {}]}, 0).close(2400).starts == 0
 

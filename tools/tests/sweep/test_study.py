@@ -61,6 +61,16 @@ BAD = {
         "values = [2]\nrange = {from = 1, to = 2}",
         "needs one of values, range, random, option, and has several",
     ),
+    "a value that no cell takes": (
+        "values = [0, 10, 20, 95]",
+        "values = [0.5, 10]",
+        "offset: 0.5 is not a value of the cell ['pattern', 1, 3], which takes whole numbers from 0 to 255",
+    ),
+    "a value out of the range of its cell": ("values = [2, 3, 4]", "values = [5]", "mode: 5 is not a value of"),
+    "equal seeds": ("seeds = 5", "seeds = [1, 2, 1]", "seeds has 1 twice: equal seeds give equal runs"),
+    "a beginning after the end": ("seeds = 5", "seeds = 5\nfrom = 30", "from is 30 s, and the run ends at 20 s"),
+    "a phase that is not enabled": ('"services"', '"services phase 12"', "phase 12 is not enabled in any cabinet"),
+    "a cabinet that is not there": ('"services"', '"services cabinet 3"', "the scenario has no cabinet 3"),
     "no TOML": ("seeds = 5", "seeds = = 5", "study.toml: not valid TOML"),
 }  # fmt: skip
 
@@ -84,6 +94,16 @@ def test_a_file_that_is_missing_has_status_1(folder, monkeypatch, capsys):
     assert run(["sweep", "none.toml", "--count"]) == 1
 
 
+def test_a_study_of_which_every_run_is_refused_has_a_status_of_its_own(folder, monkeypatch, capsys):
+    """The offset of 95 s is beyond the cycle of 90 s."""
+    monkeypatch.chdir(folder)
+    text = STUDY.replace("values = [0, 10, 20, 95]", "values = [95]").replace("seeds = 5", "seeds = 1")
+    (folder / "study.toml").write_text(text)
+    assert run(["sweep", "study.toml", "-o", "out.csv", "--workers", "1"]) == 2
+    assert "sweep: all runs were refused: nothing was measured" in capsys.readouterr().err
+    assert (folder / "out.csv").read_text().count(",refused,") == 3
+
+
 def test_a_scheduler_that_is_not_there_is_told(folder, monkeypatch, capsys):
     monkeypatch.chdir(folder)
     monkeypatch.setattr("streettools.sweep.clusters.ANSWER", 1)
@@ -95,9 +115,12 @@ def test_a_scheduler_that_is_not_there_is_told(folder, monkeypatch, capsys):
 
 def test_a_study_of_a_milliard_runs_is_not_begun_unasked(folder, monkeypatch, capsys):
     monkeypatch.chdir(folder)
-    text = STUDY.replace("values = [0, 10, 20, 95]", "range = {from = 1, to = 100000}").replace(
-        "values = [2, 3, 4]", "range = {from = 1, to = 2000}"
-    )
+    offsets = 'cell = ["pattern", 1, 3]\ncabinet = 2\nvalues = [0, 10, 20, 95]'
+    modes = 'cell = ["unit", 1]\nvalues = [2, 3, 4]'
+    text = STUDY
+    for place, (cell, last) in enumerate(((offsets, 100000), (modes, 2000))):
+        assert cell in text
+        text = text.replace(cell, f'path = "cabinets[{place}].clock"\nrange = {{from = 1, to = {last}}}')
     (folder / "study.toml").write_text(text)
     assert run(["sweep", "study.toml", "-o", "out.csv"]) == 2
     assert capsys.readouterr().err == "sweep: the study makes 1,000,000,000 runs: --yes allows more than 100,000\n"

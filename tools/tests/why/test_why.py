@@ -155,7 +155,7 @@ def test_a_trace_on_standard_input_is_read(tmp_path):
     [
         (["--cabinet", "2", "--phase", "4", "--at", "10"], "the trace has no cabinet 2: its cabinets are 1 to 1"),
         (["--cabinet", "Oak", "--phase", "4", "--at", "10"],
-         "no name is known here, so not 'Oak' either: --names or --scenario gives names"),
+         "no name is known here, so not 'Oak' either: a timing sheet or a names file gives names"),
         (["--phase", "4", "--at", "52"], "52 is not in the trace, which has ticks 1 to 515: 00:00:00.1 to 00:00:51.5"),
         (["--phase", "4", "--at", "07:13"],
          "07:13 is not in the trace, which has ticks 1 to 515: 00:00:00.1 to 00:00:51.5"),

@@ -3,9 +3,10 @@
 import argparse
 import pathlib
 
-from ...look.words import numbers, picture, travel
-from ...shared.clock import daytime, run_seconds
-from ...shared.commandline import Parser, add_output, number
+from ...look import called, known
+from ...look.words import CABINET, FROM, STARTED, cabinets, picture, travel
+from ...shared.clock import at, daytime, placed
+from ...shared.commandline import Parser, add_output
 from ...shared.fault import Fault
 from ...shared.trace_records import NotATrace
 from ...shared.status import Status
@@ -18,7 +19,8 @@ EXAMPLES = """\
 examples, after a run has written OUT/study.json and OUT/session.trace:
   ./arterial cosim draw purdue OUT --cabinet 2 -o purdue.svg          # arrivals in each cycle
   ./arterial cosim draw paths OUT --travel 20,20,20 --from 600 --to 900 -o paths.svg
-  ./arterial cosim draw splits OUT --cabinet 2 -o splits.svg          # each service of each phase, and how it ended
+  ./arterial cosim draw paths OUT --from 07:10 --to 07:15 -o paths.svg   # of a sheet, which has the times of travel
+  ./arterial cosim draw splits OUT --cabinet "Oak & 3rd" -o splits.svg   # each service, and how its green ended
   ./arterial cosim draw queues OUT --cabinet 2 --movement EBT,SBT -o queues.svg
 
 docs/QUEUES.md explains the pictures."""
@@ -39,21 +41,19 @@ def parser() -> argparse.ArgumentParser:
     words.add_argument("kind", choices=KINDS, help="the picture to draw")
     words.add_argument("folder", help="the folder of the run (its -o)")
     add_output(words, "the picture: .svg, .png or .pdf", type=picture, required=True)
-    words.add_argument(
-        "--cabinet", type=number(1, 64), default=1, metavar="N", help="the cabinet, except for paths (default: 1)"
-    )
+    words.add_argument("--cabinet", metavar="NAME", help=f"except for paths: {CABINET}")
     words.add_argument(
         "--movement", metavar="NAME,..", help="the movements (default: for purdue the two busiest, for queues all)"
     )
     words.add_argument(
-        "--cabinets", type=numbers, metavar="N,N,..", help="the cabinets of paths, in order (default: all)"
+        "--cabinets", type=cabinets, metavar="NAME,..",
+        help="the cabinets of paths, in order, by number or name (default: all)",
     )
-    words.add_argument("--travel", type=travel, metavar="S,S,..", help="seconds from each cabinet to the next (paths)")
-    words.add_argument("--from", dest="first", type=run_seconds, metavar="TIME",
-                       help="where to begin: seconds, as 90; or 1:30, or ticks, as 900t "
-                       "(default: --warm of the run)")  # fmt: skip
-    words.add_argument("--to", dest="last", type=run_seconds, metavar="TIME", help="where to end, in the same forms")
-    words.add_argument("--start", type=daytime, metavar="TIME", help="the time of day at second 0, as 07:00:00")
+    words.add_argument("--travel", type=travel, metavar="S,S,..",
+                       help="seconds from each cabinet to the next, for paths (default: the sheet's)")  # fmt: skip
+    words.add_argument("--from", dest="first", type=at, metavar="TIME", help=f"{FROM} (default: --warm of the run)")
+    words.add_argument("--to", dest="last", type=at, metavar="TIME", help="where to end, in the same forms")
+    words.add_argument("--start", type=daytime, metavar="TIME", help=STARTED)
     return words
 
 
@@ -68,42 +68,51 @@ def study_in(folder: pathlib.Path) -> Study:
         raise Fault(f"{path}: not what a run writes") from None
 
 
-def view_of(words: argparse.Namespace, study: Study) -> View:
+def view_of(words: argparse.Namespace, study: Study, names: called.Called) -> View:
     """Returns what is looked at, which the run must have."""
-    start = study.warm if words.first is None else words.first
-    end = min(study.seconds, start + USUAL[words.kind]) if words.last is None else words.last
+    clock = known.clock_of(seen.scenario_of(study.trace))
+    began, ticks = known.started(words.start, names, clock), round(10 * study.seconds)
+    start = study.warm if words.first is None else placed(words.first, began, clock, ticks) / 10
+    usual = min(study.seconds, start + USUAL[words.kind])
+    end = usual if words.last is None else placed(words.last, began, clock, ticks) / 10
     if not 0 <= start < end <= study.seconds:
         raise Fault(f"expected a range within seconds 0 to {study.seconds:g}, found {start:g} to {end:g}")
     if end - start > MOST:
         raise Fault(f"at most {MOST:g} s fit into a picture")
-    return View(start, end, words.start)
+    return View(start, end, began, names)
+
+
+def draw_paths(words: argparse.Namespace, study: Study, view: View) -> None:
+    """Draws paths over the bands."""
+    from . import paths
+
+    chosen = [view.names.number(it, study.cabinets) for it in words.cabinets or map(str, range(1, study.cabinets + 1))]
+    times = words.travel or view.names.travel(chosen)
+    if times is None:
+        raise Fault("paths need --travel, the seconds from each cabinet to the next: no sheet of this run has them")
+    paths.draw(study, chosen, times, view, words.output)
 
 
 def draw(words: argparse.Namespace, study: Study) -> None:
     """Draws what the words ask for."""
-    view = view_of(words, study)
+    path = called.beside(str(study.trace))
+    names = called.fitting(called.read(path), path, study.cabinets) if path else called.Called()
+    view = view_of(words, study, names)
     if words.kind == "paths":
-        from . import paths
-
-        cabinets = words.cabinets or list(range(1, study.cabinets + 1))
-        if words.travel is None:
-            raise Fault("paths need --travel, the seconds from each cabinet to the next")
-        paths.draw(study, cabinets, words.travel or [], view, words.output)
+        draw_paths(words, study, view)
         return
+    cabinet = 1 if words.cabinet is None else names.number(words.cabinet, study.cabinets)
     if words.kind == "splits":
         from . import splits
 
-        if words.cabinet > study.cabinets:
-            raise Fault(f"the run has no cabinet {words.cabinet}")
-        splits.draw(study, words.cabinet, view, words.output)
+        splits.draw(study, cabinet, view, words.output)
         return
-    names = words.movement.split(",") if words.movement else None
-    movements = seen.chosen(study, words.cabinet, names)
+    asked = words.movement.split(",") if words.movement else None
+    movements = seen.chosen(study, cabinet, asked)
     if words.kind == "purdue":
         from . import purdue
 
-        shown = movements if names else seen.busiest(study, movements, 2)
-        purdue.draw(study, shown, view, words.output)
+        purdue.draw(study, movements if asked else seen.busiest(study, movements, 2), view, words.output)
     else:
         from . import queues
 

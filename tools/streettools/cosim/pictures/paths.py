@@ -7,7 +7,7 @@ from matplotlib.collections import LineCollection
 from matplotlib.lines import Line2D
 from matplotlib.patches import Patch
 
-from ...look import called, coordination, pictures
+from ...look import coordination, pictures
 from ...shared.fault import Fault
 from ...shared.trace_reader import TraceReader
 from .seen import View
@@ -42,7 +42,7 @@ def draw_paths(axes: Any, study: Study, heights: dict[int, float], view: View) -
 
 def corners_of(study: Study, cabinets: list[int], travel: list[int], view: View) -> list[coordination.Corner]:
     """Returns the coordinated greens of the cabinets, by the trace."""
-    look = coordination.View(round(10 * view.start), round(10 * view.end), sum(travel), None, called.Called())
+    look = coordination.View(round(10 * view.start), round(10 * view.end), sum(travel), None, view.names)
     with open(study.trace, "rb") as stream:
         reader = TraceReader(stream)
         wrong = next((it for it in cabinets if not 1 <= it <= reader.cabinets), None)
@@ -58,7 +58,7 @@ def draw(study: Study, cabinets: list[int], travel: list[int], view: View, path:
     if len(travel) != len(cabinets) - 1:
         raise Fault(f"{len(cabinets)} cabinets have {len(cabinets) - 1} times of travel between them")
     corners = corners_of(study, cabinets, travel, view)
-    heights = list(accumulate(travel, initial=0)) if travel and min(travel) else list(range(len(cabinets)))
+    heights = list(accumulate(travel, initial=0)) if all(travel) else list(range(len(cabinets)))
     spacing = min(high - low for low, high in zip(heights, heights[1:])) if len(heights) > 1 else 1
     title = "Coordinated greens, bands, and the paths of vehicles: above each line outbound, below it inbound"
     labels = [it.name() for it in corners]

@@ -47,7 +47,7 @@ def draw(study: Study, movements: list[Movement], view: View, path: str) -> None
     """Draws the diagram of some movements of a cabinet, one above the other, and writes it."""
     rows = [(it, cycles_in(study, it, view), passages_in(study, it, view)) for it in movements]
     labels = [told(it, passages) for it, _, passages in rows]
-    where = f"cabinet {movements[0].cabinet}"
+    where = view.cabinet(movements[0].cabinet)
     title = f"Purdue coordination diagram, {where}: seconds since red began at which vehicles reach the stop line"
     drawn, all_axes = pictures.figure(1.1 + 1.7 * len(rows), title, len(rows), labels=room(labels))
     for axes, (it, found, passages), text in zip(all_axes, rows, labels):

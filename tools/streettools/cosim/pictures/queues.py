@@ -45,7 +45,7 @@ def draw_movement(axes: Any, study: Study, movement: Movement, view: View) -> No
 
 def draw(study: Study, movements: list[Movement], view: View, path: str) -> None:
     """Draws the queues of some movements of a cabinet, and writes them."""
-    title = f"Queues, cabinet {movements[0].cabinet}: vehicles before the stop line"
+    title = f"Queues, {view.cabinet(movements[0].cabinet)}: vehicles before the stop line"
     labels = room([named(it) for it in movements])
     drawn, all_axes = pictures.figure(1.1 + 0.95 * len(movements), title, len(movements), labels=labels)
     for axes, it in zip(all_axes, movements):

@@ -1,9 +1,11 @@
 """What the pictures of a street with traffic share: the colours of a phase over time, and which movements are drawn."""
 
+import json
 import pathlib
 from typing import Any, NamedTuple
 
 from ...look import pictures
+from ...look.called import Called
 from ...shared.fault import Fault
 from ..movements import is_of_persons
 from ..records import Movement, Study
@@ -20,17 +22,30 @@ class Turn(NamedTuple):
 
 
 class View(NamedTuple):
-    """What is looked at: the first and the last second, and the time of day at which the run began, None where the
-    time since then is shown."""
+    """What is looked at: the first and the last second, the time of day at which the run began, None where the time
+    since then is shown, and what things are called."""
 
     start: float
     end: float
     began: float | None = None
+    names: Called = Called()
+
+    def cabinet(self, number: int) -> str:
+        """Returns a cabinet in the middle of a title."""
+        return self.names.cabinet(number) if self.names.street(number) else f"cabinet {number}"
+
+
+def scenario_of(trace: pathlib.Path) -> dict[str, Any]:
+    """Returns the scenario of a trace, by its first line."""
+    with open(trace, "rb") as lines:
+        scenario: dict[str, Any] = json.loads(lines.readline()[2:])
+    return scenario
 
 
 def turns(trace: pathlib.Path, cabinet: int, phases: tuple[int, ...]) -> list[Turn]:
     """Returns what a movement saw over a run: the best of what its phases showed."""
-    begin, found = b"F %d " % cabinet, []
+    begin = b"F %d " % cabinet
+    found: list[Turn] = []
     with open(trace, "rb") as lines:
         for line in lines:
             if line.startswith(begin):
@@ -54,14 +69,16 @@ class Cycle(NamedTuple):
 def cycles(seen: list[Turn]) -> list[Cycle]:
     """Returns the whole cycles of a movement: from the begin of one red to that of the next."""
     found = []
-    red = green = yellow = None
+    red: float | None = None
+    green: float | None = None
+    yellow: float | None = None
     for second, letter in seen:
         if letter == "G":
             green = second
         elif letter == "Y":
             yellow = second
         elif letter == "C" or yellow is not None or red is None:
-            if None not in (red, green, yellow):
+            if red is not None and green is not None and yellow is not None:
                 found.append(Cycle(red, green, yellow, second))
             red, green, yellow = second, None, None
     return found

@@ -100,7 +100,7 @@ def draw(study: Study, number: int, view: View, path: str) -> None:
     phases = sorted({it.phase for it in splits})
     if not phases:
         raise Fault(f"no phase of cabinet {number} was served in this time")
-    title = f"Split monitor, cabinet {number}: seconds of green, yellow and red clearance, by the begin of green"
+    title = f"Split monitor, {view.cabinet(number)}: seconds of green, yellow and red clearance, by the begin of green"
     labels = room([f"phase {it}" for it in phases])
     drawn, all_axes = pictures.figure(1.1 + 0.95 * len(phases), title, len(phases), labels=labels)
     for axes, phase in zip(all_axes, phases):

@@ -3,9 +3,11 @@
 import difflib
 from typing import Any
 
+from ...shared.clock import hours_text
 from ...shared.fault import Fault
 from ...shared.tables import Tables
 from .volumes import Crossing, Flow, Volumes
+from .yielding import gives_way, yields_to
 
 
 def tables_of(scenario: dict[str, Any]) -> dict[int, Tables]:
@@ -25,11 +27,27 @@ def check(volumes: Volumes, scenario: dict[str, Any], seconds: float) -> None:
     names_are_known(volumes)
     profiles_cover(volumes, scenario, seconds)
     capacities_hold(volumes)
+    turns_are_known(volumes, tables)
+
+
+def turns_are_known(volumes: Volumes, tables: dict[int, Tables]) -> None:
+    """Refuses turns that give way in phases that aren't there, or to movements that aren't."""
+    names = {(it.cabinet, it.name) for it in volumes.flows}
+    for it in volumes.flows:
+        enabled = tables[it.cabinet].enabled()
+        if strange := next((phase for phase in it.permitted if phase not in enabled), None):
+            raise Fault(f"volumes: {told(it)}: permitted phase {strange} is not enabled in cabinet {it.cabinet}")
+        if unknown := next((name for name in it.yielding.to if (it.cabinet, name) not in names), None):
+            raise Fault(f"volumes: {told(it)} yields to {unknown}, a movement that doesn't exist")
+        if gives_way(it) and not yields_to(it):
+            raise Fault(f"volumes: {told(it)} gives way: yields_to has to name the movements to which it does")
+        if it.yielding.on_red and it.permitted:
+            raise Fault(f"volumes: {told(it)} has permitted phases and on_red: a movement has one of both")
 
 
 def cabinets_are_there(volumes: Volumes, tables: dict[int, Tables]) -> None:
     """Refuses cabinets and phases that aren't there."""
-    for it in (*volumes.flows, *volumes.crossings):
+    for it in all_of(volumes):
         what = told(it)
         if it.cabinet not in tables:
             raise Fault(f"volumes: {what}: the scenario has no cabinet {it.cabinet}")
@@ -42,6 +60,11 @@ def cabinets_are_there(volumes: Volumes, tables: dict[int, Tables]) -> None:
             raise Fault(f"volumes: idle of cabinet {cabinet}: phase {phase} is not enabled there")
 
 
+def all_of(volumes: Volumes) -> tuple[Flow | Crossing, ...]:
+    """Returns all movements and crossings."""
+    return (*volumes.flows, *volumes.crossings)
+
+
 def told(it: Flow | Crossing) -> str:
     """Returns how a movement or a crossing is told in a message."""
     return f"{'crossing' if isinstance(it, Crossing) else it.name} of cabinet {it.cabinet}"
@@ -49,7 +72,7 @@ def told(it: Flow | Crossing) -> str:
 
 def phases_are_served(volumes: Volumes, tables: dict[int, Tables]) -> None:
     """Refuses a phase that serves nobody."""
-    served = {(it.cabinet, it.phase) for it in (*volumes.flows, *volumes.crossings)} | volumes.idle
+    served = {(it.cabinet, it.phase) for it in all_of(volumes)} | volumes.idle
     for cabinet, table in tables.items():
         for phase in table.enabled():
             if (cabinet, phase) not in served:
@@ -61,7 +84,8 @@ def phases_are_served(volumes: Volumes, tables: dict[int, Tables]) -> None:
 
 def names_are_known(volumes: Volumes) -> None:
     """Refuses equal names, approaches and profiles that aren't there, and approaches that aren't told apart."""
-    names, approaches = set(), {}
+    names: set[tuple[int, str]] = set()
+    approaches: dict[tuple[int, str], list[Flow]] = {}
     for it in volumes.flows:
         if (it.cabinet, it.name) in names:
             raise Fault(f"volumes: cabinet {it.cabinet} has two movements {it.name}")
@@ -71,6 +95,9 @@ def names_are_known(volumes: Volumes) -> None:
         onward = it.onward
         if onward is None:
             continue
+        if not onward.travel:
+            words = "travel is missing: the seconds from stop line to stop line"
+            raise Fault(f"volumes: cabinet {it.cabinet}, movement {it.name}: {words}")
         there = approaches.get((onward.cabinet, onward.approach))
         if there is None:
             where = f"{onward.cabinet} {onward.approach}"
@@ -80,34 +107,29 @@ def names_are_known(volumes: Volumes) -> None:
                 f"volumes: approach {onward.approach} of cabinet {onward.cabinet} has no volumes, "
                 "which are the shares of those who come from elsewhere"
             )
-    for it in (*volumes.flows, *volumes.crossings):
-        if it.profile is not None and it.profile not in volumes.profiles:
-            near = next(iter(difflib.get_close_matches(it.profile, volumes.profiles, 1)), None)
-            raise Fault(f"volumes: {told(it)}: no profile {it.profile}" + (f"; did you mean {near}?" if near else ""))
+    for each in all_of(volumes):
+        if each.profile is not None and each.profile not in volumes.profiles:
+            near = next(iter(difflib.get_close_matches(each.profile, volumes.profiles, 1)), None)
+            hint = f"; did you mean {near}?" if near else ""
+            raise Fault(f"volumes: {told(each)}: no profile {each.profile}{hint}")
 
 
 def profiles_cover(volumes: Volumes, scenario: dict[str, Any], seconds: float) -> None:
     """Refuses a profile that says nothing of some time of the run."""
-    used = {it.profile for it in (*volumes.flows, *volumes.crossings)} - {None}
+    used = {it.profile for it in all_of(volumes) if it.profile is not None}
     start = starts_at(scenario)
     for name in sorted(used):
         profile = volumes.profiles[name]
         if profile.steps[0][0] > start or profile.until < start + seconds:
             raise Fault(
-                f"volumes: profile {name} covers {day(profile.steps[0][0])} to {day(profile.until)}, "
-                f"and the run is from {day(start)} to {day(start + seconds)}"
+                f"volumes: profile {name} covers {hours_text(profile.steps[0][0])} to {hours_text(profile.until)}, "
+                f"and the run is from {hours_text(start)} to {hours_text(start + seconds)}"
             )
 
 
 def starts_at(scenario: dict[str, Any]) -> float:
     """Returns the time of day at which a run begins, by the clock of its first cabinet."""
     return scenario["cabinets"][0].get("clock", 0) / 10
-
-
-def day(seconds: float) -> str:
-    """Returns a time of day in words."""
-    whole = int(seconds)
-    return f"{whole // 3600}:{whole // 60 % 60:02d}" + (f":{whole % 60:02d}" if whole % 60 else "")
 
 
 def capacities_hold(volumes: Volumes) -> None:

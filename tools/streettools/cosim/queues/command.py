@@ -4,19 +4,19 @@ import argparse
 import pathlib
 import sys
 from collections.abc import Callable
-from dataclasses import replace
 from typing import Any
 
-from ...plan.suffixes import is_sheet
 from ...shared.commandline import Parser, add_json, add_output, add_program, number
 from ...shared.fault import Fault
-from ...shared.given import content_of, toml_of
-from ...shared.program import found
+from ...shared.program import answering
+from ...shared.saying import say, say_replaced
 from ...shared.status import Status
 from .. import report
+from . import keeping
 from . import study as queue_study
+from .given import Street, fitted, read_street, read_volumes
+from .keeping import TRACE
 from .study import Asked, Ran
-from .volumes import Volumes, volumes_of
 
 EXAMPLES = """\
 examples:
@@ -52,6 +52,8 @@ def parser() -> argparse.ArgumentParser:
     words.add_argument(
         "--seed", type=number(0, 4_294_967_295), default=1, metavar="N", help="the seed of random arrivals (default: 1)"
     )
+    words.add_argument("--policy", type=pathlib.Path, metavar="FILE",
+                       help="a Python file whose function step(street) drives the cabinets")  # fmt: skip
     words.add_argument(
         "--keep-inputs", action="store_true", help="keep the scenario's inputs of detectors and push buttons"
     )
@@ -59,11 +61,6 @@ def parser() -> argparse.ArgumentParser:
     add_output(words, "a folder for the report, session.trace and study.json", metavar="FOLDER")
     add_program(words)
     return words
-
-
-def read_volumes(text: bytes, name: str) -> Volumes:
-    """Reads a file of volumes."""
-    return volumes_of(toml_of(text, name))
 
 
 def asked_of(words: argparse.Namespace, seconds: float) -> Asked:
@@ -76,59 +73,42 @@ def asked_of(words: argparse.Namespace, seconds: float) -> Asked:
     return Asked(seconds, step, words.seed, words.warm, words.keep_inputs, words.output is not None)
 
 
-def given(words: argparse.Namespace) -> tuple[Volumes, dict[str, Any]]:
-    """Returns the volumes and the scenario. Where a sheet is given in its place, the partners that its rings need are
-    idle without being listed."""
-    volumes = read_volumes(content_of(words.volumes), words.volumes)
-    if not is_sheet(words.scenario):
-        return volumes, queue_study.read_scenario(content_of(words.scenario), words.scenario)
-    from ...plan import taking  # takes a while
+def maker_of(path: pathlib.Path | None, scenario: dict[str, Any]) -> queue_study.Makes | None:
+    """Returns what makes a policy of a street, None where there is no policy."""
+    if path is None:
+        return None
+    from .. import policies
 
-    street = taking.sheet(words.scenario)
-    rows = enumerate(street.names.intersections, 1)
-    partners = {(number, phase) for number, it in rows for phase in it.partners}
-    busy = {(it.cabinet, it.phase) for it in volumes.flows} | {(it.cabinet, it.phase) for it in volumes.crossings}
-    return replace(volumes, idle=volumes.idle | (partners - busy)), street.scenario
+    cabinets, community, file = len(scenario["cabinets"]), scenario.get("community", "public"), path
+    return lambda street: policies.Policy(file, policies.Street(cabinets, street.waiting, community))
 
 
-def ran(words: argparse.Namespace) -> Ran:
-    """Runs what the words ask for."""
+def ran(words: argparse.Namespace) -> tuple[Ran, Street]:
+    """Runs what the words ask for; returns what came of it, and the street."""
     from ...shared.progress import bar
 
-    volumes, scenario = given(words)
-    asked = asked_of(words, queue_study.seconds_of(scenario, words.seconds))
-    program = str(found(words.program))
+    volumes, street = read_volumes(words.volumes), read_street(words.scenario)
+    asked = asked_of(words, queue_study.seconds_of(street.scenario, words.seconds))
+    program = str(answering(words.program, lambda line: say("cosim", line), is_long=True))
     shown = bar(round(asked.seconds * 10) // asked.step, "step")
     advance: Callable[[int], None] = (lambda step: None) if shown is None else lambda step: shown.update(1)
     try:
-        return queue_study.run(program, volumes, scenario, asked, advance)
+        made = maker_of(words.policy, street.scenario)
+        return queue_study.run(program, fitted(volumes, street), street.scenario, asked, advance, made), street
     finally:
         if shown is not None:
             shown.close()
 
 
-def write(folder: pathlib.Path, value: report.Value, study: queue_study.Study, trace: bytes) -> None:
-    """Writes all that is kept of a run."""
-    from .. import records
-
-    try:
-        folder.mkdir(parents=True, exist_ok=True)
-        study.trace.write_bytes(trace)
-        records.save(study, folder / "study.json")
-        (folder / "report.json").write_text(report.json_text(value), encoding="utf-8")
-        (folder / "report.txt").write_text(report.text(value), encoding="utf-8")
-    except OSError as fault:
-        raise Fault(f"{fault.filename or folder}: {fault.strerror}", Status.FILE) from None
-
-
 def does(words: argparse.Namespace) -> int:
     """Does what the words ask for."""
-    came = ran(words)
+    came, street = ran(words)
     folder = pathlib.Path(words.output or ".")
-    study = queue_study.study_of(came, folder / "session.trace")
-    value = report.collect(study, came.signals.greens)
+    study = queue_study.study_of(came, folder / TRACE)
+    value = keeping.value_of(came, study, street)
     if came.trace is not None:
-        write(folder, value, study, came.trace)
+        say_replaced("cosim", study.trace)
+        keeping.write(folder, came, study, street)
     sys.stdout.write(report.json_text(value) if words.json else report.text(value))
     sys.stdout.flush()
     return Status.DONE

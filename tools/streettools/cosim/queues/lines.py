@@ -4,12 +4,14 @@ docs/QUEUES.md, "A queue". All times are seconds; nothing here knows of cabinets
 """
 
 from collections import deque
+from collections.abc import Callable
 from typing import NamedTuple
 
 from .volumes import Saturation
 
 NEVER = float("-inf")
 ALWAYS = float("inf")
+MANY = 1_000_000_000
 EXACT = 1e-9
 """Sums of seconds are as exact as this."""
 
@@ -24,7 +26,11 @@ class Passed(NamedTuple):
 
 class StopLine:
     """The stop line of a movement. `queue` has those who have reached the line and haven't passed it, in their order:
-    when each reached it, and its number. It is open from `opens` on, up to and with `open_until`."""
+    when each reached it, and its number. It is open from `opens` on, up to and with `open_until`.
+
+    A green rarely ends with a headway. The part of the next headway that a lane has used when it closes on a queue is
+    carried over: the first vehicle of the next green passes that much earlier. So greens discharge on average what
+    their effective lengths give, not the whole vehicles below that."""
 
     __slots__ = ("gap", "lost", "use", "lanes", "queue", "ready", "turn", "last", "open_until")
 
@@ -41,31 +47,46 @@ class StopLine:
 
     def opens(self, at: float) -> None:
         """Green begins. A lane in which somebody waits loses the start-up lost time, and then a headway for its first
-        vehicle."""
-        waiting = 0
-        for arrived, _ in self.queue:
-            if arrived > at or waiting == self.lanes:
-                break
-            waiting += 1
+        vehicle, less what it carries over."""
+        waiting, left = self.waiting(at), self.waiting(self.open_until)
         for place in range(self.lanes):
             lane = (self.turn + place) % self.lanes
-            begin = at + self.lost + self.gap if place < waiting else at
-            self.ready[lane] = max(self.ready[lane], begin)
+            carried = self.carried(lane) if place < left else 0.0
+            begin = at + self.lost + self.gap - carried if place < waiting else at
+            self.ready[lane] = max(self.ready[lane] - carried, begin)
         self.last = max(self.last, at)
         self.open_until = ALWAYS
+
+    def waiting(self, at: float) -> int:
+        """Returns in how many lanes somebody waits at a second."""
+        found = 0
+        for arrived, _ in self.queue:
+            if arrived > at or found == self.lanes:
+                break
+            found += 1
+        return found
+
+    def carried(self, lane: int) -> float:
+        """Returns the part of its next headway that a lane had used when the line closed, in seconds."""
+        return min(max(self.open_until - (self.ready[lane] - self.gap), 0.0), self.gap)
 
     def closes(self, at: float) -> None:
         """Green ends: who reaches the line within the part of the yellow that is used can't stop, and passes."""
         self.open_until = min(self.open_until, at + self.use)
 
-    def discharged(self, until: float) -> list[Passed]:
-        """Returns those who pass before a second, as far as the line is open; they leave the queue."""
-        queue, ready, passed = self.queue, self.ready, []
+    def discharged(self, until: float, may_pass: Callable[[int], bool] | None = None, most: int = MANY) -> list[Passed]:
+        """Returns those who pass before a second, as far as the line is open; they leave the queue. If `may_pass` says
+        no of the first, there is no room for it: it is asked about again at that second. `most` is how many pass."""
+        queue, ready = self.queue, self.ready
+        passed: list[Passed] = []
         end = self.open_until + EXACT
-        while queue:
+        while queue and len(passed) < most:
             arrived, vehicle = queue[0]
             at = max(arrived, ready[self.turn], self.last)
             if at >= until or at > end:
+                break
+            if may_pass is not None and not may_pass(vehicle):
+                self.last = max(self.last, until)
                 break
             queue.popleft()
             passed.append(Passed(vehicle, arrived, at))

@@ -1,19 +1,33 @@
 """The street of queues, step by step: detectors tell the cabinets, signals open stop lines, vehicles go on."""
 
-from collections.abc import Callable
+import heapq
+from collections.abc import Callable, Iterable
 from dataclasses import dataclass
+from typing import Protocol
 
 from .demand import Demand
 from .detectors import PhaseDetectors
-from .lines import StopLine
+from .gaps import Foe, YieldLine
+from .lines import Passed, StopLine
 from .session import Cabinets
 from .signals import Change, Signals
-from .volumes import Volumes
+from .volumes import Flow, Volumes
+from .yielding import gaps_of, gives_way, yields_to
 
 Reached = tuple[float, int, int]
 """When a vehicle reaches a stop line if nothing holds it, the place of the movement, the vehicle's number."""
 Passages = list[list[tuple[float, float]]]
 """For each vehicle the stop lines that it has passed: when it reached each, when it passed it."""
+
+
+class Acts(Protocol):
+    """What acts on the cabinets of a street (`policies.Policy`)."""
+
+    def heard(self, lines: list[bytes]) -> None:
+        """Takes what cabinets show."""
+
+    def requests(self, second: float, before: list[bytes]) -> list[bytes]:
+        """Returns what it asks of the cabinets at a second, after other requests."""
 
 
 @dataclass
@@ -40,6 +54,7 @@ class Street:
         self.flows, self.demand, self.steps = volumes.flows, demand, steps
         self.size = steps.ticks / 10
         self.lines = [StopLine(it.lanes, it.saturation) for it in self.flows]
+        self.places = {(it.cabinet, it.name): place for place, it in enumerate(self.flows)}
         self.passages: Passages = [[] for _ in demand.vehicles]
         self.reached: list[list[Reached]] = [[] for _ in range(steps.count + 1)]
         self.passing: list[list[tuple[float, int]]] = [[] for _ in range(steps.count + 1)]
@@ -48,7 +63,17 @@ class Street:
         for place, it in enumerate(self.flows):
             key = (it.cabinet, it.phase)
             self.detectors.setdefault(key, PhaseDetectors(*key)).watch(it, self.lines[place])
-            self.by_phase.setdefault(key, []).append(place)
+            if not (it.phase in it.permitted and gives_way(it)):
+                self.by_phase.setdefault(key, []).append(place)
+        self.held = [0] * len(self.flows)
+        """How many vehicles from the stop lines before are on the way to each line, or wait there."""
+        self.limited = {place for place, it in enumerate(self.flows) if next_is_limited(volumes, it)}
+        self.foes: dict[int, Foe] = {}
+        self.yields: dict[int, YieldLine] = {}
+        self.windows: dict[tuple[int, int], list[YieldLine]] = {}
+        for place, it in enumerate(self.flows):
+            if gives_way(it):
+                self.let_yield(place, it)
         self.seers = [self.detectors[it.cabinet, it.phase] for it in self.flows]
         for number, vehicle in enumerate(demand.vehicles):
             self.sent(vehicle.entry, vehicle.way.flows[0], number, 0)
@@ -57,6 +82,8 @@ class Street:
     def sent(self, at: float, place: int, vehicle: int, now: int) -> None:
         """Puts a vehicle on its way: in which step it reaches a stop line, and drives over the detector ahead of it."""
         step = self.steps.place(at)
+        if place in self.foes:
+            heapq.heappush(self.foes[place].coming, at)
         if step > self.steps.count:
             return
         self.reached[max(step, now)].append((at, place, vehicle))
@@ -65,22 +92,41 @@ class Street:
             over = max(at - ahead, 0.0)
             self.passing[max(self.steps.place(over), now)].append((over, place))
 
-    def run(self, cabinets: Cabinets, signals: Signals, advance: Callable[[int], None]) -> None:
-        """Runs all steps; `advance` is told each of them."""
+    def waiting(self, cabinet: int, movement: str) -> int:
+        """Returns how many vehicles wait at a movement."""
+        return len(self.lines[self.places[cabinet, movement]].queue)
+
+    def run(
+        self, cabinets: Cabinets, signals: Signals, advance: Callable[[int], None], policy: Acts | None = None
+    ) -> None:
+        """Runs all steps; `advance` is told each of them, a policy may act before each."""
         signals.shown(cabinets.shown)
-        seers = list(self.detectors.values())
+        if policy is not None:
+            policy.heard(cabinets.shown)
         for step in range(self.steps.count):
-            now = step * self.size
-            requests = self.presses[step]
-            for it in seers:
-                if it.is_awake:
-                    it.told(now, requests)
+            requests = self.requests(step)
+            if policy is not None:
+                requests += policy.requests(round(step * self.size, 1), requests)
             lines = cabinets.step(requests, self.steps.ticks)
-            self.arrive(step)
-            for change in signals.shown(lines):
-                self.turn(change, step)
-            self.discharge(step, now + self.size)
+            if policy is not None:
+                policy.heard(lines)
+            self.follow(step, signals.shown(lines))
             advance(step)
+
+    def requests(self, step: int) -> list[bytes]:
+        """Returns what cabinets are told before a step: push buttons, then detectors that have changed."""
+        requests, now = self.presses[step], step * self.size
+        for it in self.detectors.values():
+            if it.is_awake:
+                it.told(now, requests)
+        return requests
+
+    def follow(self, step: int, changes: list[Change]) -> None:
+        """Moves vehicles through a step in which signals have changed."""
+        self.arrive(step)
+        for change in changes:
+            self.turn(change, step)
+        self.discharge(step, step * self.size + self.size)
 
     def arrive(self, step: int) -> None:
         """Takes those who reach a stop line, or drive over the detector ahead of it, in a step."""
@@ -93,8 +139,25 @@ class Street:
         for at, place in self.passing[step]:
             self.seers[place].drove(at, self.flows[place].detectors.occupied)
 
+    def let_yield(self, place: int, flow: Flow) -> None:
+        """Makes what a movement has that gives way: to whom, and in which greens. A turn on red may always be, but in
+        its own green."""
+        to = [other for other, it in enumerate(self.flows) if it.cabinet == flow.cabinet and it.name in yields_to(flow)]
+        foes = [self.foes.setdefault(other, Foe(self.lines[other])) for other in to]
+        lanes = max((self.flows[other].lanes for other in to), default=1)
+        own = self.yields[place] = YieldLine(self.lines[place], foes, gaps_of(flow, lanes))
+        if flow.yielding.on_red:
+            own.opens(0.0)
+        for phase in flow.permitted:
+            self.windows.setdefault((flow.cabinet, phase), []).append(own)
+
     def turn(self, change: Change, step: int) -> None:
         """Opens or closes the stop lines of a phase."""
+        for it in self.windows.get((change.cabinet, change.phase), ()):
+            if change.is_green:
+                it.opens(change.at)
+            else:
+                it.closes(change.at)
         for place in self.by_phase.get((change.cabinet, change.phase), ()):
             line = self.lines[place]
             if change.is_green:
@@ -104,22 +167,45 @@ class Street:
                 line.closes(change.at)
 
     def discharge(self, step: int, until: float) -> None:
-        """Lets pass who can, at all stop lines."""
+        """Lets pass who can, at all stop lines; those who yield after the others."""
         for place, line in enumerate(self.lines):
             if line.queue and line.open_until >= until - self.size:
                 self.passed(place, step, until)
+        for place, it in self.yields.items():
+            if it.open_from is not None:
+                self.moved(place, step, it.passed(until, self.has_room))
+
+    def has_room(self, vehicle: int) -> bool:
+        """Tells whether there is room for a vehicle before the next stop line on its way."""
+        way, at = self.demand.vehicles[vehicle].way.flows, len(self.passages[vehicle]) + 1
+        storage = self.flows[way[at]].storage if at < len(way) else None
+        return storage is None or self.held[way[at]] < storage
 
     def passed(self, place: int, step: int, until: float) -> None:
         """Lets pass who can at one stop line, and sends them on."""
+        if place not in self.limited:
+            self.moved(place, step, self.lines[place].discharged(until))
+            return
+        while one := self.lines[place].discharged(until, self.has_room, 1):
+            self.moved(place, step, one)
+
+    def moved(self, place: int, step: int, passed: Iterable[Passed]) -> None:
+        """Sends those who pass a stop line on."""
         flow, seer = self.flows[place], self.seers[place]
-        for vehicle, arrived, released in self.lines[place].discharged(until):
+        foe = self.foes.get(place)
+        for vehicle, arrived, released in passed:
             seer.is_awake = True
+            if foe is not None:
+                foe.lately.append(released)
             if flow.detectors.stop:
                 seer.drove(released, flow.detectors.occupied)
             told = self.passages[vehicle]
+            if told:
+                self.held[place] -= 1
             told.append((arrived, released))
             way, travels = self.demand.vehicles[vehicle].way, self.demand.vehicles[vehicle].travels
             if len(told) < len(way.flows):
+                self.held[way.flows[len(told)]] += 1
                 self.sent(released + travels[len(told) - 1], way.flows[len(told)], vehicle, step + 1)
 
 
@@ -134,3 +220,11 @@ def presses(volumes: Volumes, demand: Demand, steps: Steps) -> list[list[bytes]]
             if press not in found[step]:
                 found[step].append(press)
     return found
+
+
+def next_is_limited(volumes: Volumes, flow: Flow) -> bool:
+    """Tells whether a movement leads to an approach of which some movement has a limited storage."""
+    to = flow.onward
+    return to is not None and any(
+        it.storage is not None and (it.cabinet, it.approach) == (to.cabinet, to.approach) for it in volumes.flows
+    )

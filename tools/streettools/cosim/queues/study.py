@@ -11,9 +11,10 @@ from . import checks
 from .demand import Demand, demand_of
 from .session import Cabinets, scenario_of
 from .signals import Signals
-from .street import Steps, Street
-from .volumes import Volumes
-from ..records import Kind, Movement, Passage, QueueSample, Study, Trip
+from .street import Acts, Steps, Street
+from .volumes import Flow, Volumes
+from .yielding import gives_way
+from ..records import Kind, Movement, Passage, Study, Trip, queue_samples
 
 STOPPED = 2.0
 """Who waits as long as this has stopped; who waits less has slowed down."""
@@ -76,14 +77,25 @@ Advance = Callable[[int], None]
 """Is told each step that is done."""
 
 
-def run(program: str, volumes: Volumes, scenario: dict[str, Any], asked: Asked, advance: Advance) -> Ran:
-    """Runs the street."""
+Makes = Callable[[Street], Acts]
+"""Makes a policy of a street."""
+
+
+def run(
+    program: str,
+    volumes: Volumes,
+    scenario: dict[str, Any],
+    asked: Asked,
+    advance: Advance,
+    makes: Makes | None = None,
+) -> Ran:
+    """Runs the street, with a policy if one is to be made."""
     checks.check(volumes, scenario, asked.seconds)
     given, steps = session_of(scenario, asked)
     demand = demand_of(volumes, asked.seed, checks.starts_at(scenario), asked.seconds)
     street, signals = Street(volumes, demand, steps), Signals(len(scenario["cabinets"]))
     with Cabinets(program, given, asked.keeps_trace) as cabinets:
-        street.run(cabinets, signals, advance)
+        street.run(cabinets, signals, advance, makes(street) if makes else None)
         cabinets.close()
     signals.close(steps.seconds)
     trace = cabinets.trace() if asked.keeps_trace else None
@@ -93,9 +105,17 @@ def run(program: str, volumes: Volumes, scenario: dict[str, Any], asked: Asked, 
 def movements_of(volumes: Volumes) -> list[Movement]:
     """Returns the movements of vehicles and of persons."""
     crossed = {(it.cabinet, it.phase) for it in volumes.crossings}
-    return [Movement(it.cabinet, it.name, it.phase) for it in volumes.flows] + [
+    return [movement_of(it) for it in volumes.flows] + [
         Movement(cabinet, f"ped {phase}", phase) for cabinet, phase in sorted(crossed)
     ]
+
+
+def movement_of(flow: Flow) -> Movement:
+    """Returns the movement of a flow; where it gives way its gaps are no capacity that is known before."""
+    rates = flow.saturation
+    service = None if gives_way(flow) else (rates.flow * flow.lanes, rates.lost, rates.yellow)
+    parents = (flow.phase, *(it for it in flow.permitted if it != flow.phase)) if gives_way(flow) else ()
+    return Movement(flow.cabinet, flow.name, flow.phase, parents, service, flow.storage)
 
 
 def vehicle_trips(ran: Ran) -> list[Trip]:
@@ -117,9 +137,13 @@ def vehicle_trips(ran: Ran) -> list[Trip]:
         if not is_there:
             reaches = told[-1][1] + vehicle.travels[len(told) - 1] if told else vehicle.entry
             lost += max(0.0, seconds - reaches)
+        waits = None
+        if not is_there and reaches < seconds:
+            it = flows[vehicle.way.flows[len(told)]]
+            waits = it.cabinet, it.name, reaches
         arrive = told[-1][1] if is_there else None
         name, route = str(number + 1), vehicle.way.route
-        found.append(Trip(name, route, Kind.CAR, tuple(passages), vehicle.entry, arrive, lost, stops))
+        found.append(Trip(name, route, Kind.CAR, tuple(passages), vehicle.entry, arrive, lost, stops, waits))
     return found
 
 
@@ -139,33 +163,15 @@ def person_trips(ran: Ran) -> list[Trip]:
     return found
 
 
-def samples(ran: Ran) -> list[QueueSample]:
-    """Returns how many vehicles stood at each stop line, whenever that changed."""
-    flows = ran.volumes.flows
-    changes: list[list[tuple[float, int]]] = [[] for _ in flows]
-    for vehicle, told in zip(ran.demand.vehicles, ran.street.passages):
-        for place, (arrived, released) in zip(vehicle.way.flows, told):
-            if arrived < released:
-                changes[place] += ((arrived, 1), (released, -1))
-    found = []
-    for it, line, rows in zip(flows, ran.street.lines, changes):
-        rows += [(at, 1) for at, _ in line.queue]
-        rows.sort()
-        count = 0
-        for at, change in rows:
-            count += change
-            found.append(QueueSample(it.cabinet, it.name, at, count))
-    return found
-
-
 def study_of(ran: Ran, trace: pathlib.Path) -> Study:
     """Returns what was recorded of a run."""
+    vehicles, movements = vehicle_trips(ran), movements_of(ran.volumes)
     return Study(
         cabinets=ran.cabinets,
-        movements=movements_of(ran.volumes),
+        movements=movements,
         trace=trace,
-        trips=vehicle_trips(ran) + person_trips(ran),
-        queues=samples(ran),
+        trips=vehicles + person_trips(ran),
+        queues=queue_samples(vehicles, movements),
         seconds=ran.street.steps.seconds,
         warm=ran.asked.warm,
         title=ran.volumes.title,

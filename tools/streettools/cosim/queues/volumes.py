@@ -49,8 +49,9 @@ class Detectors:
 
 @dataclass(frozen=True)
 class Onward:
-    """Where vehicles go on: the cabinet and the approach there, how long they drive at the wanted speed, which share
-    of the movement goes there (the others leave the street), and the dispersion of platoons."""
+    """Where vehicles go on: the cabinet and the approach there, how long they drive at the wanted speed (0 where the
+    file doesn't say it, and a sheet has to), which share of the movement goes there (the others leave the street), and
+    the dispersion of platoons."""
 
     cabinet: int
     approach: str
@@ -60,9 +61,23 @@ class Onward:
 
 
 @dataclass(frozen=True)
+class Yielding:
+    """How a movement turns that gives way: to which movements of its cabinet (none: by their names), the critical gap
+    and the follow-up time in seconds (None: those of the Highway Capacity Manual), how many complete their turn after
+    the green, and whether it turns on red."""
+
+    to: tuple[str, ...] = ()
+    critical: float | None = None
+    follow: float | None = None
+    sneakers: int = 2
+    on_red: bool = False
+
+
+@dataclass(frozen=True)
 class Flow:
     """A movement of an approach: its phase, its volume, its lanes, what sees it, where it goes on. `permitted` are
-    phases in which it may turn after it yields; they are kept for UTDF, and not simulated."""
+    phases in which it may turn after it yields. `storage` is how many vehicles fit between the stop lines before and
+    this one, None where there is no limit."""
 
     cabinet: int
     name: str
@@ -76,6 +91,8 @@ class Flow:
     onward: Onward | None = None
     profile: str | None = None
     permitted: tuple[int, ...] = ()
+    yielding: Yielding = field(default_factory=Yielding)
+    storage: int | None = None
 
 
 @dataclass(frozen=True)
@@ -175,15 +192,25 @@ def onward_of(given: Given, dispersion: float) -> Onward | None:
     number, _, approach = to.partition(" ")
     if not (number.isdecimal() and len(number) <= 3 and approach):
         raise given.refuse("to", 'has to be a cabinet and an approach, as "2 EB"')
-    if travel is None:
-        raise given.refuse("travel", "is missing: the seconds from stop line to stop line")
-    return Onward(int(number), approach, float(travel), float(share), dispersion)
+    return Onward(int(number), approach, float(travel or 0), float(share), dispersion)
+
+
+def yielding_of(given: Given) -> Yielding:
+    """Reads how a movement turns that gives way."""
+    return Yielding(
+        given.texts("yields_to"),
+        given.within("critical_gap", NUMBER, 0.5, 30),
+        given.within("follow_up", NUMBER, 0.5, 30),
+        given.within("sneakers", int, 0, 10, 2),
+        given.take("on_red", bool, False),
+    )
 
 
 def flow_of(given: Given, cabinet: int, around: Usual) -> Flow:
     """Reads a movement."""
-    usual = Usual.of(given, around)
     name = given.need("name", str)
+    given.place = f"cabinet {cabinet}, movement {name}: "
+    usual = Usual.of(given, around)
     if not name or " " in name:
         raise given.refuse("name", "has to be one word, as EBT")
     if "phase" not in given.table:
@@ -201,6 +228,8 @@ def flow_of(given: Given, cabinet: int, around: Usual) -> Flow:
         onward_of(given, usual.dispersion),
         usual.profile,
         tuple(given.numbers("permitted", 16)),
+        yielding_of(given),
+        given.within("storage", int, 1, 10_000),
     )
     given.end()
     return found
@@ -208,7 +237,8 @@ def flow_of(given: Given, cabinet: int, around: Usual) -> Flow:
 
 def crossing_of(given: Given, cabinet: int, usual: Usual) -> Crossing:
     """Reads a crossing."""
-    given.need("phase", int)
+    phase = given.need("phase", int)
+    given.place = f"cabinet {cabinet}, crossing of phase {phase}: "
     found = Crossing(
         cabinet,
         given.within("phase", int, 1, 16),
@@ -231,6 +261,7 @@ def volumes_of(document: dict[str, Any]) -> Volumes:
     def cabinet(row: Given) -> None:
         number = row.need("number", int)
         numbers.append(number)
+        row.place = f"cabinet {number}: "
         flows.extend(row.each("movements", lambda it: flow_of(it, number, usual)))
         crossings.extend(row.each("crossings", lambda it: crossing_of(it, number, usual)))
         idle.extend((number, it) for it in row.numbers("idle", 16))

@@ -9,7 +9,7 @@ from typing import Any, NamedTuple
 from streettools.shared import answers
 from streettools.shared.answers import Cancelled, ClockNamed, Requested
 from streettools.shared.cabinet import changes, mode_of, opened
-from streettools.shared.trace_records import Answered, Ended, Frame, Input, Noted, RoundEnd
+from streettools.shared.trace_records import Answered, Ended, Frame, Happening, Input, Load, Noted, RoundEnd
 from streettools.shared.plans import coordinated
 from streettools.shared.tables import ALL
 from streettools.shared.trace_reader import TraceReader
@@ -46,7 +46,9 @@ class CabinetNumbers:
     def __init__(self, scenario: dict[str, Any], number: int, shared: Shared):
         self.cabinet, self.shared = opened(scenario, number), shared
         self.tables = {name: Table(fields) for name, fields in FIELDS.items()}
-        self.side, self.rings, self.pairs = None, [], []
+        self.side: int | None = None
+        self.rings: list[tuple[int, str]] = []
+        self.pairs: list[tuple[int, int, int]] = []
         self.laid(0)
         self.paired(0, self.opening_pair())
 
@@ -72,7 +74,7 @@ class CabinetNumbers:
         """Keeps a mark with its words."""
         self.tables["marks"].add(tick, kind, self.shared.words.number(text))
 
-    def take(self, happening) -> None:
+    def take(self, happening: Happening) -> None:
         """Takes over what happened at the cabinet."""
         match happening:
             case Frame():
@@ -87,7 +89,7 @@ class CabinetNumbers:
             case Answered(_, tick, _, str() as digits):
                 self.answered(tick, digits)
 
-    def ended(self, tick: int, load) -> None:
+    def ended(self, tick: int, load: Load) -> None:
         """Keeps the end of a download."""
         self.cabinet.ended(load)
         if load.version is None:

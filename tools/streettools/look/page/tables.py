@@ -40,7 +40,7 @@ class Table:
 class Words:
     """Texts by number: each is kept once."""
 
-    def __init__(self):
+    def __init__(self) -> None:
         self.places: dict[str, int] = {}
 
     def number(self, text: str) -> int:

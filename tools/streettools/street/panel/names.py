@@ -1,43 +1,15 @@
 """Messages in words, with the names of objects by the MIB."""
 
-import functools
-import pathlib
-import re
-
 from ...cabinet.messages import reply_of
 from ...shared.answers import ERRORS
 from ...shared.ber import INTEGER, NULL, OCTETS, Arcs, Field, Malformed, number_of
-from ...shared.oids import ENTERPRISES, dotted
+from ...shared.mib import names
+from ...shared.oids import dotted
 from ...shared.snmp import BULK, GET, GET_NEXT, RESPONSE, SET, Binding, message_of
 
-HERE = pathlib.Path(__file__).resolve()
-MIB = "ARTERIAL-PROFILE-MIB"
-PLACES = [HERE.parents[4] / "mibs" / MIB, *(it / "share/snmp/mibs" / MIB for it in HERE.parents[4:6])]
-"""Where the MIB may be: in the checkout, or in an installation."""
-ROOTS = {"enterprises": ENTERPRISES}
-KIND = r"(?:OBJECT-TYPE|OBJECT IDENTIFIER|MODULE-IDENTITY)"
-ASSIGNED = re.compile(r"^([a-z]\w*)\s+" + KIND + r"\b.*?::= \{ (\w+) (\d+) \}", re.M | re.S)
 KINDS = {GET: "Get", GET_NEXT: "GetNext", SET: "Set", RESPONSE: "Response", BULK: "GetBulk"}
 MOST_SHOWN, MOST_ARCS, MOST_TEXT = 6, 20, 160
 """How many bindings of a message are shown, how many arcs of a name, and how many signs of a value."""
-
-
-@functools.cache
-def names() -> dict[Arcs, str]:
-    """Returns the names of objects by their arcs; none where the MIB is missing."""
-    file = next((place for place in PLACES if place.is_file()), None)
-    text = re.sub(r'"[^"]*"|--.*', "", file.read_text(encoding="utf-8")) if file else ""
-    told = {name: (parent, int(number)) for name, parent, number in ASSIGNED.findall(text)}
-    known: dict[str, Arcs] = dict(ROOTS)
-
-    def arcs(name: str) -> Arcs | None:
-        if name not in known and name in told:
-            parent = arcs(told[name][0])
-            if parent is not None:
-                known[name] = (*parent, told[name][1])
-        return known.get(name)
-
-    return {found: name for name in told if (found := arcs(name)) is not None}
 
 
 def named(arcs: Arcs) -> str:

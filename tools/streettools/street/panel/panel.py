@@ -71,6 +71,7 @@ class Panel(Hearer):
 
     def __init__(self, state: PanelState) -> None:
         self.shown = state
+        self.names: dict[str, Any] = {}
         self.street: Street
         self.pages: set[Page] = set()
         self.streams = Streams()
@@ -120,7 +121,8 @@ class Panel(Hearer):
 
     def head(self) -> dict[str, Any]:
         """Returns what a page is told as it opens."""
-        return {"facts": self.shown.facts, "ticks": self.shown.scenario["ticks"], "all": True, **self.shown.news(0)}
+        laid = {"facts": self.shown.facts, "names": self.names, "ticks": self.shown.scenario["ticks"]}
+        return {**laid, "all": True, **self.shown.news(0)}
 
     def state(self) -> dict[str, Any]:
         """Returns what every text tells: the speed, the switches, the streams, and how the street ended."""

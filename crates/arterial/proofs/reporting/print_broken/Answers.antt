@@ -4,7 +4,7 @@ use Rattle.arterial.specs.Report.{number_then}
 use Rattle.arterial.proofs.Printing.{prints-first, prints-then}
 use Rattle.arterial.proofs.reporting.print_broken.Goals as goal
 
--- what comes behind the cabinet
+-- what comes after the cabinet
 abbrev behind : ℕ → ℕ → List ℕ
 behind rule row = number_then (codes " breaks rule ") rule (number_then (codes " at row ") row (10 ∷ []))
 

@@ -3,7 +3,7 @@ use Rattle.cabinet_history.specs.Journals.{runs_of, passes_of}
 use Rattle.cab_book.specs.Shares.{read_journal}
 use Rattle.cab_book.proofs.journal.join_runs.Given as goal
 
--- the runs before this place stand together in front, and the others are as they were
+-- the runs before this place are together in front, and the others are as they were
 abbrev pub invariant-loop-place : goal.invariant-loop-place
 invariant-loop-place l = record {
   kept : l.kept ≤ l.place;

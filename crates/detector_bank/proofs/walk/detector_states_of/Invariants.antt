@@ -5,7 +5,7 @@ use Rattle.detector_bank.specs.declared.detector_state.DetectorState.{DetectorSt
 use Rattle.detector_bank.specs.Watching.{Sorts, Posted}
 use Rattle.detector_bank.proofs.walk.detector_states_of.Given as goal
 
--- so many states were made
+-- that many states were made
 abbrev pub invariant-loop-k : goal.invariant-loop-k
 invariant-loop-k l = record {
   count : length l.detector_states.items ≡ l.k;

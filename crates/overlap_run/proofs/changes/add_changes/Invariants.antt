@@ -6,7 +6,7 @@ use Rattle.overlap_run.specs.Text.{changes_to}
 use Rattle.overlap_run.specs.Parents.{parents_of, green_at, IsSeen}
 use Rattle.overlap_run.proofs.changes.add_changes.Given as goal
 
--- the parents are seen, the overlap stands for what was seen of them, and the lines of the changes so far are written
+-- the parents are seen, the overlap represents what was seen of them, and the lines of the changes so far are written
 abbrev pub invariant-loop-done : goal.invariant-loop-done
 invariant-loop-done l = record {
   seen : IsSeen (parents_of l.parents) l.frames.items (l.ticks + 1) l.done l.seen.0 l.seen.1;

@@ -4,7 +4,7 @@ use Rattle.sig_types.specs.Passes.{number_of}
 use Rattle.cab_book.specs.Books.{BookStands, streams_in, journal_of, left_of, ticks_by_end}
 use Rattle.round_run.proofs.serial.bring_all.Given as goal
 
--- what is left of the stream is still to come behind the journal so far
+-- what is left of the stream is still to come after the journal so far
 abbrev pub invariant-loop-stream : goal.invariant-loop-stream
 invariant-loop-stream l = record {
   stands : (cabinet_history : CabinetHistory) → BookStands l.fn.book cabinet_history → BookStands l.book cabinet_history;

@@ -33,7 +33,7 @@ invariant-tree_items-items l =
 abbrev pub decreases-tree_items-items : goal.decreases-tree_items-items
 decreases-tree_items-items l = length l.reader
 
--- the members so far are those that are kept, with what was skipped where null stands
+-- the members so far are those that are kept, with what was skipped where null is
 abbrev pub invariant-tree_members-members : goal.invariant-tree_members-members
 invariant-tree_members-members l =
     (n : ℕ) × (passed : List ℕ → Data) × (length l.reader ≤ n)

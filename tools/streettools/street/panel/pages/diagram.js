@@ -2,7 +2,7 @@
 "use strict";
 
 const ROW = 34;
-const LEFT = 80;
+const LETTER = 7.2;
 const NARROWEST = 320;
 const LABEL = 90;
 
@@ -25,23 +25,34 @@ function meet(some, others) {
   return found;
 }
 
+// The ticks of travel from the first cabinet of an order to each of it.
+function delays(order) {
+  const links = order.slice(1).map((row, at) => 10 * travelOf(Math.min(row, order[at])));
+  return links.reduce((found, it) => [...found, found[found.length - 1] + it], [0]);
+}
+
 // Times at the first cabinet at which one who drives on meets green at each cabinet in turn.
-function bands(rows, travel) {
-  const moved = rows.map((greens, at) => greens.map(([a, b]) => [a - at * travel, b - at * travel]));
+function bands(rows, away) {
+  const moved = rows.map((greens, at) => greens.map(([a, b]) => [a - away[at], b - away[at]]));
   return moved.length > 1 ? moved.slice(1).reduce(meet, moved[0]) : [];
 }
 
-function bandPoints([from, to], order, travel, x) {
-  const points = (time) => order.map((row, at) => [x(time + at * travel), row * ROW + ROW / 2 + 10]);
+// The middle of a cabinet's row: the first is at the foot, so that outbound is drawn upwards.
+function middle(row, count) {
+  return (count - 1 - row) * ROW + ROW / 2 + 10;
+}
+
+function bandPoints([from, to], order, away, x) {
+  const points = (time) => order.map((row, at) => [x(time + away[at]), middle(row, order.length)]);
   return [...points(from), ...points(to).reverse()].map((it) => it.join(",")).join(" ");
 }
 
 function drawBands(svg, known, name, ring, order, x) {
-  const travel = 10 * Number(document.getElementById("travel").value);
+  const away = delays(order);
   const shown = document.getElementById(`${name}bound`).checked;
-  const found = shown ? bands(order.map((row) => greensOf(known, row + 1, ring)), travel) : [];
+  const found = shown ? bands(order.map((row) => greensOf(known, row + 1, ring)), away) : [];
   svg.selectAll(`polygon.${name}`).data(found).join("polygon").attr("class", name)
-    .attr("points", (it) => bandPoints(it, order, travel, x));
+    .attr("points", (it) => bandPoints(it, order, away, x));
 }
 
 function drawDiagram(known) {
@@ -52,15 +63,16 @@ function drawDiagram(known) {
   const width = Math.max(NARROWEST, svg.node().clientWidth);
   svg.attr("viewBox", `0 0 ${width} ${height}`);
   const times = [Math.max(0, known.now - ticks), Math.max(ticks, known.now)];
-  const x = d3.scaleLinear().domain(times).range([LEFT, width - 30]).clamp(true);
   const rows = known.facts.map((facts, at) => at);
+  const left = 12 + LETTER * Math.max(...rows.map((it) => cabinetName(it + 1).length));
+  const x = d3.scaleLinear().domain(times).range([Math.min(left, 0.6 * width), width - 30]).clamp(true);
   svg.selectAll("text.row").data(rows).join("text").attr("class", "row").attr("x", 6)
-    .attr("y", (it) => it * ROW + ROW / 2 + 14).text((it) => `Cabinet ${it + 1}`);
+    .attr("y", (it) => middle(it, rows.length) + 4).text((it) => cabinetName(it + 1));
   const barsOf = (row, ring) => greensOf(known, row + 1, ring).map((it) => [row, ring, ...it]);
   const bars = rows.flatMap((row) => [...barsOf(row, 0), ...barsOf(row, 1)]);
   svg.selectAll("rect.green").data(bars.filter((it) => it[3] > x.domain()[0])).join("rect").attr("class", "green")
     .attr("x", (it) => x(it[2])).attr("width", (it) => Math.max(1, x(it[3]) - x(it[2])))
-    .attr("y", (it) => it[0] * ROW + 10 + it[1] * 11).attr("height", 9);
+    .attr("y", (it) => middle(it[0], rows.length) + (it[1] ? 1 : -10)).attr("height", 9);
   drawBands(svg, known, "out", 0, rows, x);
   drawBands(svg, known, "in", 1, [...rows].reverse(), x);
   const axis = svg.selectAll("g.axis").data([0]).join("g").attr("class", "axis");

@@ -5,7 +5,7 @@ const COLOURS = { G: "green", Y: "yellow change", C: "red clearance", R: "red" }
 const SIGNALS = { W: "walk", F: "flashing don't walk", D: "don't walk" };
 const STAGES = { e: "on the way", t: "track clearance", d: "dwell", x: "exit" };
 const KEPT = 200;
-const known = { facts: [], cabinets: {}, now: 0, speed: 1, inputs: new Set(), rates: {}, greens: {}, details: {} };
+const known = { facts: [], names: {}, cabinets: {}, now: 0, speed: 1, inputs: new Set(), rates: {}, greens: {}, details: {} };
 const by = (id) => document.getElementById(id);
 let socket = null;
 let viewed = 0;
@@ -53,11 +53,13 @@ function shownOf(row) {
 function take(told) {
   if (told.facts) {
     known.facts = told.facts;
+    known.names = told.names || {};
     build();
   }
   if (told.laid) {
     known.facts[told.laid.number - 1] = told.laid;
     by("cards").children[told.laid.number - 1].dataset.tick = "";
+    if (told.laid.number === viewed) buildPhases();
   }
   if (told.all) clearLists();
   if (told.now !== undefined) known.now = told.now;
@@ -119,6 +121,49 @@ function showEnding(text) {
   put(by("ending"), text);
 }
 
+// names
+
+function cabinetName(number) {
+  return (known.names.cabinets || [])[number - 1] || `Cabinet ${number}`;
+}
+
+// The name of a cabinet with its number, for titles.
+function cabinetTitle(number) {
+  const name = (known.names.cabinets || [])[number - 1];
+  return name ? `${name} (cabinet ${number})` : `Cabinet ${number}`;
+}
+
+function phaseName(p) {
+  if (((known.names.placeholders || [])[viewed - 1] || []).includes(p)) return "placeholder: only the rings need it";
+  return ((known.names.phases || [])[viewed - 1] || {})[p] || "";
+}
+
+function preemptTitle(n) {
+  const name = ((known.names.preempts || [])[viewed - 1] || {})[n];
+  return name ? `Preempt ${n}: ${name}` : `Preempt ${n}`;
+}
+
+// The seconds from a cabinet, by its place from 0, to the next.
+function travelOf(at) {
+  const it = by(`travel-${at + 1}`);
+  return it ? Math.max(0, Number(it.value) || 0) : 0;
+}
+
+function travelInput(number) {
+  const label = made("label", "", `${cabinetName(number)} to ${cabinetName(number + 1)} (s) `);
+  const it = made("input");
+  const told = (known.names.travel || [])[number - 1];
+  const value = told === undefined || told === null ? 20 : told;
+  Object.assign(it, { type: "number", min: 0, max: 600, step: "any", value, id: `travel-${number}` });
+  it.addEventListener("change", () => drawDiagram(known));
+  label.append(it);
+  return label;
+}
+
+function buildTravel() {
+  by("travel").replaceChildren(...known.facts.slice(1).map((facts, at) => travelInput(at + 1)));
+}
+
 // the street
 
 function lamp(letter, name, label) {
@@ -131,7 +176,7 @@ function buildCards() {
   const cards = known.facts.map((facts) => {
     const card = made("a", "card");
     card.href = `#${facts.number}`;
-    card.append(made("strong", "", `Cabinet ${facts.number}`), made("span", "mode"), made("div", "lamps"));
+    card.append(made("strong", "", cabinetTitle(facts.number)), made("span", "mode"), made("div", "lamps"));
     card.querySelector(".mode").before(" ");
     return card;
   });
@@ -153,7 +198,8 @@ function showCard(facts) {
 function phaseBox(p) {
   const box = made("div", "phase");
   box.id = `box-${p}`;
-  box.append(made("b", "", `Phase ${p}`), made("span", "interval"), made("span", "split"));
+  box.append(made("b", "", `Phase ${p}`), made("span", "called", phaseName(p)), made("span", "interval"));
+  box.append(made("span", "split"));
   return box;
 }
 
@@ -210,7 +256,7 @@ function cell(...content) {
 
 function phaseRow(p) {
   const row = made("tr");
-  const name = made("th", "", String(p));
+  const name = made("th", "", `${p} ${phaseName(p)}`.trim());
   name.scope = "row";
   const hold = button("Hold", `hold-${p}`, true);
   const pulse = button("Pulse", `pulse-${p}`);
@@ -239,13 +285,23 @@ function toggle(kind, place) {
   ask({ do: "input", kind, cabinet: viewed, place, on });
 }
 
+// Lists the enabled phases, where they are others than before.
+function buildPhases() {
+  const list = by("phases");
+  const phases = known.facts[viewed - 1].phases;
+  const listed = JSON.stringify([viewed, phases, known.names]);
+  if (list.dataset.listed === listed) return;
+  list.dataset.listed = listed;
+  list.tBodies[0].replaceChildren(...phases.map(phaseRow));
+}
+
 function buildCabinet() {
   const facts = known.facts[viewed - 1];
   if (!facts) return;
-  put(by("cabinet-title"), `Cabinet ${viewed}`);
-  by("phases").tBodies[0].replaceChildren(...Array.from({ length: 16 }, (_, at) => phaseRow(at + 1)));
+  put(by("cabinet-title"), cabinetTitle(viewed));
+  buildPhases();
   const preempts = Array.from({ length: 8 }, (_, at) => {
-    const it = button(`Preempt ${at + 1}`, `preempt-${at + 1}`, true);
+    const it = button(preemptTitle(at + 1), `preempt-${at + 1}`, true);
     it.addEventListener("click", () => toggle("preempt", at + 1));
     return it;
   });
@@ -319,17 +375,20 @@ function showPhase(p, shown) {
 
 function showCabinet() {
   const shown = known.cabinets[viewed];
-  if (!shown || !by("hold-1")) return;
+  if (!shown || !by("preempt-1")) return;
   layRings(shown);
   showFacts(shown);
-  for (let p = 1; p <= 16; p += 1) showPhase(p, shown);
+  for (const p of known.facts[viewed - 1].phases) showPhase(p, shown);
   for (let n = 1; n <= 8; n += 1) press(`preempt-${n}`, known.inputs.has(`preempt ${viewed} ${n}`));
 }
 
 // all
 
 function build() {
+  put(by("street-title"), known.names.title || "Street");
+  document.title = known.names.title || "Street";
   buildCards();
+  buildTravel();
   buildCabinet();
 }
 
@@ -368,7 +427,7 @@ by("pause").addEventListener("click", () => ask({ do: "speed", speed: known.spee
 by("tick").addEventListener("click", () => ask({ do: "step", ticks: 1 }));
 by("second").addEventListener("click", () => ask({ do: "step", ticks: 10 }));
 by("speed").addEventListener("change", () => ask({ do: "speed", speed: Number(by("speed").value) }));
-for (const id of ["travel", "minutes", "outbound", "inbound"]) {
+for (const id of ["minutes", "outbound", "inbound"]) {
   by(id).addEventListener("change", () => drawDiagram(known));
 }
 window.addEventListener("hashchange", look);

@@ -11,7 +11,7 @@ use Rattle.cab_book.proofs.Lengthening.{added, acts-same, acts-stay, longer_by, 
 use Rattle.cab_book.proofs.Numbers.{way-above, way-within, way-low}
 use Rattle.cab_book.proofs.book.Book.add_frame.Goals as goal
 
--- memory was wanting for the stream
+-- memory ran out for the stream
 pub invariant_of-self : goal.invariant_of-self
 invariant_of-self c =
     let b = c.reserve_one.new.self in

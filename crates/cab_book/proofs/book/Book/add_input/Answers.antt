@@ -9,7 +9,7 @@ use Rattle.cab_book.proofs.Bringing.{Taken, input-taken, room-less}
 use Rattle.cab_book.proofs.Lengthening.{added, acts-same, acts-stay, longer_by, placed-more, placed-same, round-same, short-lengthened, short-same, tallied-lengthened, tallied-same, unchanged, with_last_at}
 use Rattle.cab_book.proofs.book.Book.add_input.Goals as goal
 
--- memory was wanting for the stream
+-- memory ran out for the stream
 pub invariant_of-self : goal.invariant_of-self
 invariant_of-self c =
     let b = c.reserve_one.new.self in

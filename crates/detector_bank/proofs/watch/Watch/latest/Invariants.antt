@@ -5,6 +5,6 @@ use Rattle.detector_bank.specs.Bank.{latest_edges}
 use Rattle.detector_bank.specs.Watching.{Counts}
 use Rattle.detector_bank.proofs.watch.Watch.latest.Given as goal
 
--- the edges of so many rounds were counted
+-- the edges of that many rounds were counted
 abbrev pub invariant-loop-back : goal.invariant-loop-back
 invariant-loop-back l = (d : Detector) (ps : List Pulse) → length ps ≤ 1000000 → Counts l.self d ps l.round → l.sum ≡ latest_edges d ps l.back l.round

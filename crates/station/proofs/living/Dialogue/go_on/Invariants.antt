@@ -4,7 +4,7 @@ use Rattle.session_words.specs.Unread.{unread}
 use Rattle.station.specs.Living.{SessionGoesOn}
 use Rattle.station.proofs.living.Dialogue.go_on.Given as goal
 
--- the session has gone on from where it was, and no call failed
+-- the session has continued from where it was, and no call failed
 abbrev pub invariant-lines : goal.invariant-lines
 invariant-lines g l = record {
   on : SessionGoesOn l.fn.self.session l.self.session (unread l.fn.self.reader (g.S.Source.left l.fn.source)) (unread l.self.reader (g.S.Source.left l.source))

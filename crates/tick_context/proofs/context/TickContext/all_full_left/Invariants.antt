@@ -8,7 +8,7 @@ use Rattle.tick_context.specs.Context.{ContextStands}
 use Rattle.tick_context.specs.Lasting.{HasNoRoom}
 use Rattle.tick_context.proofs.context.TickContext.all_full_left.Given as goal
 
--- for each of the phases that was looked at there is no room for so many ticks
+-- for each of the phases that was looked at there is no room for that many ticks
 abbrev pub invariant-loop : goal.invariant-loop
 invariant-loop l =
     (past : Past) (k q : ℕ) → ContextStands l.self past → IsBound l.self.active_pattern past.tables l.self.frame.mode

@@ -1,0 +1,46 @@
+"""What a comparison says in words: whether a plan differs from another, by the interval of the difference."""
+
+from collections.abc import Iterable, Iterator
+
+from .comparison import Row, Terms
+from .totals import Mean
+
+SAME, LESS, MORE, UNKNOWN = "no real difference", "less", "more", "unknown"
+
+
+def verdict(more: Mean | None) -> str | None:
+    """Returns whether there is less or more under a plan: a difference is real if its interval of 95 % doesn't have 0
+    in it. None for the plan with which the others are compared; one seed alone can't tell."""
+    if more is None:
+        return None
+    if more.half is None:
+        return UNKNOWN
+    if abs(more.value) <= more.half or not more.value:
+        return SAME
+    return LESS if more.value < 0 else MORE
+
+
+def word(more: Mean | None) -> str:
+    """Returns the verdict for the column of a table."""
+    said = verdict(more)
+    return "-" if said is None else "one seed can't tell" if said == UNKNOWN else said
+
+
+def sentences(terms: Terms, rows: Iterable[Row]) -> Iterator[str]:
+    """Yields a sentence for each plan that is compared, by the delay of all vehicles."""
+    for it in rows:
+        if it.more_delay is None:
+            continue
+        value, half, said = it.more_delay.value, it.more_delay.half or 0.0, verdict(it.more_delay)
+        pair = f"{it.plan} against {terms.against}"
+        size = f"{abs(value):.1f} s {'less' if value < 0 else 'more'} delay a vehicle"
+        low, high = sorted((abs(value) - half, abs(value) + half))
+        if said == UNKNOWN:
+            yield f"{pair}: {size} with one seed, which can't tell whether the difference is real: give more seeds"
+        elif said == SAME:
+            yield (
+                f"{pair}: no real difference in delay ({value - half:+.1f} to {value + half:+.1f} s at 95 % over "
+                f"{len(terms.seeds)} seeds)" + ("" if not half else "; more seeds narrow the interval")
+            )
+        else:
+            yield f"{pair}: {size} ({low:.1f} to {high:.1f} s at 95 % over {len(terms.seeds)} seeds)"
