@@ -12,8 +12,6 @@ from . import network
 from .compass import WAYS
 from .drive import read_config
 from .map_making import LENGTH, Maker, Said
-from .queues.checks import tables_of
-from .run import read_scenario
 
 EXAMPLES = """\
 examples:
@@ -87,4 +85,9 @@ def main(given: list[str]) -> int:
 
 def tables(words: argparse.Namespace) -> list[Tables]:
     """Returns the tables of the cabinets, none where no scenario is given."""
-    return [] if words.scenario is None else list(tables_of(read_scenario(words.scenario)).values())
+    if words.scenario is None:
+        return []
+    from .queues.checks import tables_of  # here, since they take a while
+    from .run import read_scenario
+
+    return list(tables_of(read_scenario(words.scenario)).values())

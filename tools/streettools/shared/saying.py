@@ -1,7 +1,10 @@
 """Lines on standard error, texts on standard output, and texts from outside that are shown."""
 
 import sys
-from pathlib import Path
+from typing import TYPE_CHECKING
+
+if TYPE_CHECKING:
+    from pathlib import Path  # takes a while
 
 
 def say(command: str, words: object) -> None:
@@ -9,7 +12,7 @@ def say(command: str, words: object) -> None:
     print(f"{command}: " + "\n".join(map(visible, str(words).split("\n"))), file=sys.stderr, flush=True)
 
 
-def say_replaced(command: str, path: Path) -> None:
+def say_replaced(command: str, path: "Path") -> None:
     """Says that a file is there that the command will write over; nothing where it isn't."""
     if path.exists():
         say(command, f"{path} already exists and is replaced")
