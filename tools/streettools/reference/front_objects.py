@@ -62,7 +62,8 @@ NAMED: dict[Arcs, Named] = {
     ),
     **under(
         ASC, Source.ASC,
-        unitControlStatus=(3, 5), unitFlashStatus=(3, 6), maxPatterns=(4, 5), maxSplits=(4, 8), localFreeStatus=(4, 11),
+        unitControlStatus=(3, 5), unitFlashStatus=(3, 6), unitAlarmStatus2=(3, 7), unitAlarmStatus1=(3, 8),
+        shortAlarmStatus=(3, 9), maxPatterns=(4, 5), maxSplits=(4, 8), localFreeStatus=(4, 11),
     ),
     ASC + (4, 12): Named("coordCycleStatus", Source.ASC, "the direction in which it counts (here: the seconds left)"),
     **under(ASC, Source.ASC, coordSyncStatus=(4, 13), maxPreempts=(6, 1)),

@@ -339,6 +339,29 @@ def test_copies_of_steps_are_answered_as_their_first_and_do_nothing():
     talk(talked)
 
 
+def test_alarms_follow_the_mode():
+    """Start-up, free, on the way to a pattern from the green of the side street, coordinated, flash, preempt."""
+    names = [(*oids.ASC, 3, arc, 0) for arc in (8, 7, 9)]
+    steps = [((), 10), ((), 350), ((oids.CONTROL, 1), 5), ((), 300), ((oids.CONTROL, 255), 3000)]
+
+    async def talked(it):
+        street = it.world.street
+        await street.input(b"veh 1 4 on")
+        for order, ticks in steps:
+            assert not order or await it.set(ONE, order) == 0
+            await street.session.take(ticks)
+            statuses.append(await it.read(*names))
+        await it.set(ONE, (oids.CONTROL, 254))
+        await street.session.take(3000)
+        await street.input(b"preempt 1 1 on")
+        await street.session.take(400)
+        statuses.append(await it.read(*names))
+
+    statuses = []
+    talk(talked, ALONE | {"cabinets": [{"cells": [["preempt", 1, 13, "0206"]]}]})
+    assert statuses == [[0, 0, 0], [64, 0, 0], [0, 32, 0], [128, 0, 0], [32, 0, 2], [0, 0, 1]]
+
+
 def test_the_set_id_changes_with_the_tables():
     name = (*oids.GLOBAL, 1, 1, 0)
 

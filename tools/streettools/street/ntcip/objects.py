@@ -23,6 +23,8 @@ from .side import Side
 from .transaction import Transaction
 
 FLASH, COORD, SEEK = 6, 4, 3
+FREE, PREEMPTED = 2, (7, 8, 9, 10)
+ALARMS = {COORD: 128, FREE: 64, FLASH: 32}
 GROUP = 8
 """The phases or detectors of a group."""
 COUNTER_END = 1 << 32
@@ -95,6 +97,24 @@ async def flash_status(front: Front) -> Field:
     return whole(3 if mode == FLASH else 2)
 
 
+async def alarms(front: Front) -> Field:
+    """Returns unitAlarmStatus1: coordination is active (128), free (64), flash (32)."""
+    (mode,) = await front.side.numbers(MODE)
+    return whole(ALARMS.get(mode, 0))
+
+
+async def more_alarms(front: Front) -> Field:
+    """Returns unitAlarmStatus2: on the way to the offset (32)."""
+    (mode,) = await front.side.numbers(MODE)
+    return whole(32 if mode == SEEK else 0)
+
+
+async def short_alarms(front: Front) -> Field:
+    """Returns shortAlarmStatus: preempt (1), flash (2)."""
+    (mode,) = await front.side.numbers(MODE)
+    return whole(1 if mode in PREEMPTED else 2 if mode == FLASH else 0)
+
+
 async def free_status(front: Front) -> Field:
     """Returns notFree (2), commandFree (3), transitionFree (4) or other (1)."""
     mode, command = await front.side.numbers(MODE, CONTROL)
@@ -144,6 +164,7 @@ def scalars() -> dict[Arcs, Read]:
     made[SYSTEM + (5, 0)] = kept(lambda front: text(front.street.name_of(front.cabinet).encode()))
     made[GLOBAL + (1, 1, 0)] = set_id
     made |= {SYSTEM + (3, 0): up_time, GLOBAL_TIME: global_time, ASC + (3, 6, 0): flash_status}
+    made |= {ASC + (3, 7, 0): more_alarms, ASC + (3, 8, 0): alarms, ASC + (3, 9, 0): short_alarms}
     made |= {ASC + (4, 11, 0): free_status, ASC + (4, 12, 0): cycle_status, ASC + (4, 13, 0): sync_status}
     made[TRANSACTION] = by_stage(lambda transaction: whole(transaction.state))
     made[VERIFY_STATUS] = by_stage(lambda transaction: whole(transaction.verified))
