@@ -176,8 +176,8 @@ def test_what_is_wrong_is_told(tmp_path):
 
 
 def test_an_address_that_others_can_reach_is_warned_of(street):
-    running = street("--ports", 0, "--bind", "127.0.0.1")
-    assert running.told("warning: anyone who reaches 127.0.0.1 can read and change these cabinets")
+    running = street("--ports", 0, "--bind", "0.0.0.0")
+    assert running.told("warning: anyone who reaches 0.0.0.0 can read and change these cabinets")
 
 
 def test_a_program_that_dies_ends_it_with_its_status_and_its_line(street, tmp_path):
