@@ -86,7 +86,7 @@ class Part:
 
 @dataclass(frozen=True)
 class Verify:
-    """A download of so many parts is to be judged."""
+    """The request to verify a download of `total` parts."""
 
     load: int
     total: int
@@ -127,7 +127,7 @@ def request_of(value: Value) -> Request | None:
 
 
 def order_of(binds: list[Bind], place: int, tables: Tables) -> Order:
-    """Returns what a binding of a Set that is no download asks for."""
+    """Returns what a binding of a Set asks for, if the Set isn't part of a download."""
     name, value = NAMES.get(binds[place].oid), binds[place].value
     if name is Scalar.PATTERN_CONTROL:
         pattern = whole(binds, place, 0, FLASH)

@@ -1,4 +1,4 @@
-"""The greatest through bands of a street's plan, each way.
+"""The widest progression bands of a street's plan, each way.
 
 docs/BANDS.md. Each time of the cycle is tested.
 """
@@ -76,7 +76,7 @@ def window(street: Street, tables: Tables, ring: int) -> set[int]:
 
 
 def band_line(street: Street, is_inbound: bool) -> bytes:
-    """Returns the line of the greatest band one way: the widest, of equal ones the earliest."""
+    """Returns the line of the widest progression band one way; of equal ones, the earliest."""
     passages, cycle = street.passages(is_inbound), street.cycle
     windows = {it.cabinet: window(street, it.tables, 2 if is_inbound else 1) for it in passages}
 

@@ -1,6 +1,6 @@
 """The vehicle detectors of a field file: when each calls, and which of its edges count.
 
-docs/FIELD-FILE.md, "What a detector calls". Each is told by looking back over the rounds.
+docs/FIELD-FILE.md, "What a detector calls". Each is found by looking back over the rounds.
 """
 
 from dataclasses import dataclass, field

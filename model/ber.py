@@ -1,8 +1,8 @@
 """Lengths, numbers, texts and names as octets, both ways.
 
-ITU-T X.690 as RFC 1157 takes it; docs/DEFINITIONS.md, "Messages (RFC 1157, ITU-T X.690)". A reader takes the octets
-and the place at which a field begins, and returns the field and the place behind it; octets that aren't the field's
-are told by `Unreadable`.
+ITU-T X.690 as RFC 1157 takes it; docs/DEFINITIONS.md, "Messages (RFC 1157, ITU-T X.690)". A reader takes the octets and
+the place at which a field begins, and returns the field and the place after it. It raises `Unreadable` if the octets
+aren't a field of this type.
 """
 
 import functools
@@ -24,7 +24,7 @@ def demand(holds: bool) -> None:
 
 
 def read_length(octets: bytes, at: int) -> tuple[int, int]:
-    """Reads a length: one octet below 128, or 81 to 84 with so many octets behind it. The indefinite form is none."""
+    """Reads a length: one octet below 128, or 81 to 84 followed by 1 to 4 octets. The indefinite form is invalid."""
     demand(at < len(octets))
     first = octets[at]
     if first < 0x80:

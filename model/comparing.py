@@ -109,7 +109,7 @@ def smaller_cases(case: Case) -> Iterator[Case]:
 
 
 def shrunk(case: Case, differs: Callable[[Case], bool], tries: int = MOST_TRIES) -> Case:
-    """Returns a smaller case that still differs, as small as so many tries make it."""
+    """Returns a smaller case that still differs, as small as this number of tries makes it."""
     left = tries
     is_smaller = True
     while is_smaller and left > 0:

@@ -1,4 +1,4 @@
-"""A cabinet's controller: what is told to it, and its ticks.
+"""A cabinet's controller: what it receives, and its ticks.
 
 docs/DEFINITIONS.md, "A history, and looking back over it": `Event`.
 """

@@ -15,7 +15,7 @@ DWELL, SHORTWAY, ADD_ONLY = 2, 3, 4
 
 @dataclass(frozen=True)
 class Cycle:
-    """The steps since the counter last came to 0, or the pattern was picked up. A pickup counts as a change."""
+    """The steps since the counter last became 0, or the pattern was picked up. A pickup counts as a change."""
 
     stands: int = 0
     skips: int = 0

@@ -35,7 +35,7 @@ def signal_next(past: Past, p: int, row: Preempt | None) -> Signal:
 
 
 def has_least_green(past: Past, p: int, row: Preempt | None) -> bool:
-    """Tells whether a Green phase has had its least green."""
+    """Tells whether a Green phase has had its minimum green."""
     least = rows(past.latched(p))[p].least_green
     if row is not None:
         least = max(1, min(least, row.least_green))
@@ -43,5 +43,5 @@ def has_least_green(past: Past, p: int, row: Preempt | None) -> bool:
 
 
 def is_served(past: Past, p: int, row: Preempt | None) -> bool:
-    """Tells whether a Green phase has had its least green, and no walk or pedestrian clearance of it runs on."""
+    """Tells whether a Green phase has had its minimum green, and its walk or pedestrian clearance isn't running."""
     return has_least_green(past, p, row) and signal_next(past, p, row) is Signal.DONT

@@ -28,7 +28,7 @@ def refused_line(cabinet: int, load: int, broken: Broken) -> bytes:
 
 
 def reply_line(cabinet: int, stream: int, reply: bytes | None) -> bytes:
-    """Returns the A line of a frame that was answered or met with silence."""
+    """Returns the A line of a frame that was answered or ignored."""
     return f"A {cabinet} {stream} {'-' if reply is None else reply.hex()}".encode()
 
 
@@ -111,6 +111,6 @@ def is_line(line: bytes) -> bool:
 
 
 def head(line: bytes) -> list[bytes]:
-    """Returns what must agree for two lines to differ in their fields alone: the kind, and the cabinet or the number
-    of a round."""
+    """Returns what must be equal if two lines differ only in their fields: the kind, and the cabinet or the number of a
+    round."""
     return line.split(b" ", 2)[:2]

@@ -27,7 +27,7 @@ class Lines:
         self.held = bytearray()
 
     def next(self, most: int) -> Line:
-        """Returns the next line, which may have so many octets; at the end of input what is left of one."""
+        """Returns the next line, which has at most `most` octets; at the end of input, the incomplete rest of one."""
         seen = 0
         while (end := self.held.find(b"\n", seen)) < 0:
             del self.held[most + 1 :]

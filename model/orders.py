@@ -16,15 +16,15 @@ BACKUP_TIME = 5
 
 @dataclass(frozen=True)
 class Drift:
-    """After so many ticks each time a clock goes on by one tick more, or stands still for one; 0 is never."""
+    """At each multiple of this number of ticks a clock advances by one tick more, or stops for one; 0 is never."""
 
     gain: int = 0
     lose: int = 0
 
 
 def command_now(past: Past) -> tuple[int, int]:
-    """Returns the pattern in command at the tick that comes, and the number of ticks before it was told. It is 0
-    once the backup time in force has passed since then, and stays so until another is told."""
+    """Returns the pattern in command at the coming tick, and the number of the tick after which it was commanded. The
+    pattern is 0 once the backup time in force has passed since then, until another one is commanded."""
     last, number = past.last, past.last.number + 1
     command, commanded = (
         (last.command, last.commanded) if past.told.command is None else (past.told.command, last.number)

@@ -1,4 +1,4 @@
-"""What the two rings end and begin in free operation and in step with a pattern.
+"""What the two rings end and begin in free operation and coordinated by a pattern.
 
 docs/DEFINITIONS.md, "A tick: rings" and "A tick: coordination"; docs/DEFINITIONS.md has the plan of the standard
 pattern. A phase is wanted with k where it has demand and, with a pattern, room for its service after k ticks more.
@@ -137,8 +137,8 @@ class Rings:
         return p not in maximum_recall(self.tables, self.bound) and self.quiet.get(p, 0) >= self.row[p].passage
 
     def reason(self, p: int) -> Ending | None:
-        """Returns the reason for which a Green phase may end: in free operation gap or maximum, with a pattern gap, an
-        active priority request or its split filled, and for a coordinated phase its force point alone."""
+        """Returns the reason for which a Green phase may end. In free operation: gap or maximum; with a pattern: gap,
+        an active priority request or its split filled; for a coordinated phase: only its force point."""
         if self.plan is not None and p in self.plan.coordinated:
             extension = self.tables.unit(EXTENSION_LIMIT) if self.request else 0
             return Ending.FORCE_POINT if self.counter >= self.plan.force[p] + extension else None

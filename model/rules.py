@@ -48,7 +48,7 @@ def is_listed_back(tables: Tables, p: int) -> bool:
 
 
 def lists_other_ring(tables: Tables, p: int) -> bool:
-    """Rule 4: the list names phases of the other ring alone."""
+    """Rule 4: the list names only phases of the other ring."""
     return all(rows(tables)[q].ring != rows(tables)[p].ring for q in listed(tables, p))
 
 
@@ -103,7 +103,7 @@ def has_yellow(tables: Tables, p: int) -> bool:
 
 
 def reverts_in_time(tables: Tables, p: int) -> bool:
-    """Rule 11: the red revert is no longer than the least service and clearance of any other phase together."""
+    """Rule 11: the red revert is no longer than the minimum service and clearance of any other phase together."""
     row = rows(tables)
     return all(row[p].red_revert <= row[q].least_service + row[q].clearance for q in enabled(tables) if q != p)
 

@@ -118,7 +118,7 @@ class Items:
         self.loads: Counter[int] = Counter()
 
     def item(self, says: dict[str, Any], path: str, what: Any) -> Item:
-        """Returns an item by what its names say; its place stands at the end of its path."""
+        """Returns an item by what its names say; its place is at the end of its path."""
         return Item(says["round"], says["cabinet"], int(path.rsplit("[", 1)[1][:-1]), what)
 
     def input(self, value: Any, path: str) -> Item:

@@ -40,7 +40,7 @@ class Journal:
         self.runs: Runs = []
 
     def took(self, number: int, count: int = 1) -> None:
-        """Adds so many items of a pass."""
+        """Adds a number of items of a pass."""
         if self.runs and self.runs[-1][0] == number:
             count += self.runs.pop()[1]
         self.runs.append((number, count))
@@ -129,7 +129,7 @@ class Session:
 
 
 def bring(round_: Round, journal: Journal) -> Iterator[bytes]:
-    """Yields the lines of all that comes to a cabinet before the ticks of its round."""
+    """Yields the lines of all that a cabinet receives before the ticks of its round."""
     for number, count in round_.due.serial():
         if number == TICKS:
             return

@@ -1,4 +1,4 @@
-"""What may stand at a place of a JSON value, and the first fault of what does.
+"""What is allowed at a place of a JSON value, and the first fault of what is there.
 
 docs/SCENARIO.md, "What is refused, and how". A shape takes a value and its path, and returns what the value says; a
 fault is raised. Of one value the kind comes before the range; of a list its length before its items; of an object
@@ -14,7 +14,7 @@ from model.cells import COLUMNS, ROWS, SUBS, Cell, Misfit, Octets, Table, Value,
 
 Shape = Callable[[Any, str], Any]
 NEEDED = object()
-"""Stands for the default of a name that must be there."""
+"""The default of a required name."""
 
 
 class Refused(Exception):
@@ -163,9 +163,8 @@ def fields(value: Any, path: str, names: list[Named]) -> dict[str, Any]:
 
 
 def alternatives(value: Any, path: str, common: list[Named], choices: dict[str, list[Named]]) -> dict[str, Any]:
-    """Returns what the names of an object say that has some names and those of one alternative. An alternative
-    stands where its first name does; where two or none stand, the fault is the object's, behind those of the common
-    names."""
+    """Returns what the names of an object say that has some names and those of one alternative. An alternative is
+    chosen by its first name. If two or none are chosen, the fault is the object's, after those of the common names."""
     standing = [first for first in choices if isinstance(value, dict) and first in value]
     one = choices[standing[0]] if len(standing) == 1 else [it for choice in choices.values() for it in choice]
     known = names_known(value, path, [it.name for it in common + one])

@@ -56,7 +56,7 @@ def pattern_status(shown: Shown) -> int:
 
 
 def outcome_detail(shown: Shown) -> tuple[int, int]:
-    """Returns what is told of the last outcome beside its code: the part that is expected, or rule and row."""
+    """Returns the details of the last outcome, in addition to its code: the expected part, or rule and row."""
     last = shown.stage.last
     if last is None:
         return 0, 0

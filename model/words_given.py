@@ -37,7 +37,7 @@ class Band:
 
 @dataclass(frozen=True)
 class Seed:
-    """What a generated scenario is drawn from."""
+    """What a generated scenario is generated from."""
 
     seed: int
     cabinets: int

@@ -1,4 +1,4 @@
-"""Frames of other software: commands, reads, downloads, and octets that are no message."""
+"""Frames of other software: commands, reads, downloads, and octets that aren't a message."""
 
 from random import Random
 
@@ -113,8 +113,8 @@ def load_binds(draw: Random, drawn: Drawn, load: int) -> list[Bind]:
 
 
 def load_cells(draw: Random, drawn: Drawn) -> list[CellList]:
-    """Draws the cells of a download: times of phases, else all cells of a cabinet of this structure drawn anew, at
-    times of another."""
+    """Draws the cells of a download: times of phases, or new values for all cells of a cabinet of this structure
+    (sometimes of the standard one)."""
     made = drawn.made if draw.random() < 0.9 else STANDARD
     if draw.random() < 0.5:
         return time_cells(draw, made)

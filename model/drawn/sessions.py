@@ -1,4 +1,4 @@
-"""Drawn sessions: a scenario whose lists stand by rounds, and requests, some of which can't be taken."""
+"""Drawn sessions: a scenario whose lists are in the order of rounds, and requests, some of which are invalid."""
 
 from random import Random
 from typing import Any
@@ -63,7 +63,7 @@ def framed(street: Street) -> bytes:
 
 
 def request(draw: Random, street: Street) -> bytes:
-    """Draws a request that takes no ticks; one of twelve can't be taken."""
+    """Draws a request that takes no ticks; one of twelve is invalid."""
     kind = draw.random()
     if kind < 0.5:
         return given(street)

@@ -45,7 +45,7 @@ def rise(street: Street, number: int) -> int:
 
 
 def go_on(street: Street, watch: Watch, number: int, told: list, shown: Seen, before: Seen) -> Tick:
-    """Returns a tick by what was told before it, and lets the watch go on."""
+    """Returns a tick by the orders before it, and advances the watch."""
     command, clock = watch.command, watch.clock
     for order in told:
         if order.scalar is Scalar.CLOCK:

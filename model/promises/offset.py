@@ -1,6 +1,6 @@
-"""Left undisturbed, a cabinet comes to a local zero within a bound, and onto its offset within the computed number of
-cycles more, and stays there; with a clock that drifts within twice as many and to within one tick (a clock that gains
-by the shortway correction alone).
+"""Left undisturbed, a cabinet reaches a local zero within a bound, and its offset within the computed number of cycles
+after that, and stays there. If the clock drifts, it reaches it within twice that number, and to within one tick (if the
+clock gains, only with the shortway correction).
 
 docs/DEFINITIONS.md, "What coordination promises, left undisturbed".
 """

@@ -12,7 +12,7 @@ from model.tables import Row, rows
 
 @dataclass(frozen=True)
 class Span:
-    """How long an interval may last: from least to most ticks; None where there is no most."""
+    """How long an interval may last: from least to most ticks; `most` is None if there isn't a maximum."""
 
     least: int
     most: int | None

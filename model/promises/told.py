@@ -1,7 +1,7 @@
-"""What a trace tells of each cabinet: its frames, the tables of its versions, and what was told to it.
+"""What a trace says of each cabinet: its frames, the tables of its versions, and what it received.
 
 docs/TRACE.md. The tables of a version are the opening ones with the cells of the downloads that the L lines accept;
-these cells stand in the A lines, since an answer without a fault repeats what it answers.
+these cells are in the A lines, since an answer without a fault repeats what it answers.
 """
 
 from collections.abc import Iterator
@@ -76,8 +76,8 @@ class Street:
     parts: list[list[tuple[Cell, Value]]] = field(default_factory=list)
 
     def tables(self, seen: Seen) -> Tables:
-        """Returns the tables of the version that a frame names; those of the last where there is no such version
-        (whole.py tells of it)."""
+        """Returns the tables of the version that a frame names; if that version doesn't exist, those of the last
+        (whole.py reports it)."""
         return self.versions[min(seen.version, len(self.versions) - 1)]
 
     def staged(self) -> Tables:

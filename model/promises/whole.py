@@ -9,7 +9,7 @@ from model.rules import first_broken
 
 
 def versions(street: Street) -> Iterator[str]:
-    """Tells of frames with another version than the number of downloads that were accepted before their tick."""
+    """Reports frames whose version isn't the number of downloads that were accepted before their tick."""
     accepted = [end.tick for end in street.ends if end.version is not None]
     for seen in street.seen:
         due = sum(tick < seen.tick for tick in accepted)

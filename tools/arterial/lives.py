@@ -37,7 +37,7 @@ REFUSALS = {
 }  # fmt: skip
 """What a session answers to a request that isn't accepted (docs/LIVE.md), in words."""
 PART = 24
-"""A part of a download has so many cells."""
+"""How many cells a part of a download has at most."""
 WORD = 65_535
 
 

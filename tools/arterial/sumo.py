@@ -38,7 +38,7 @@ class Steps(Loop):
     detects = True
 
     def requests(self, is_whole: bool) -> list[bytes]:
-        """Returns what the cabinets are told before the ticks."""
+        """Returns the requests to the cabinets before the ticks."""
         found = list(super().requests(is_whole))
         if not self.detects:
             found = [it for it in found if not it.startswith(b"veh ")]
@@ -133,7 +133,7 @@ class Sumo:
         return tuple(it for it in names if it is not None)
 
     def waiting(self) -> int:
-        """Returns how many vehicles stand before stop lines."""
+        """Returns how many vehicles wait before stop lines."""
         return len(self.standing)
 
     def counted(self) -> Any:

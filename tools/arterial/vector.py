@@ -12,7 +12,7 @@ from .errors import Error, Over, Refused
 from .spaces import Space
 
 MOST = 256
-"""So many processes there may be at most."""
+"""The maximum number of processes."""
 SECONDS = 10.0
 """How long a process may take to end."""
 

@@ -129,7 +129,8 @@ def movement_of(signal: MappedSignal, link: Link) -> MappedMovement:
 
 
 class Side(NamedTuple):
-    """A link of a pair whose paths cross, its movement, and a phase under which it has way."""
+    """A link of a pair whose paths cross, its movement, and a phase under which it has the right of way or a green that
+    yields."""
 
     link: Link
     movement: MappedMovement
@@ -137,8 +138,8 @@ class Side(NamedTuple):
 
 
 def lets_go(network: Network, one: Side, other: Side) -> bool:
-    """Tells whether a link under a phase gives way to another: SUMO lets it, and the map says so by name, or it turns
-    under its permissive phase and meets who comes from opposite, or pedestrians."""
+    """Tells whether a link under a phase gives way to another. SUMO has to let it, and the map has to name the other
+    movement, or the link has to turn under its permissive phase and meet opposing vehicles or pedestrians."""
     if not network.gives_way(one.link, other.link):
         return False
     if one.movement.yields_to(other.movement.name):

@@ -22,9 +22,9 @@ LETTER = {LEFT: "L", RIGHT: "R", TURN: "U"}
 
 @dataclass
 class LinkPhase:
-    """What could be told of a link: its movement's name, and its phase, None where it is to be asked for, with why; and
-    under which phase it is permissive. `is_said` tells that the user gave the phase, `is_weak` that the network's own
-    program has it give way in its phase."""
+    """What was found of a link: its movement's name, its phase (None if the user has to give it, with the reason), and
+    the phase under which it is permissive. `is_said` means that the user gave the phase, `is_weak` that the network's
+    own program has it give way in its phase."""
 
     link: Link
     name: str
@@ -84,7 +84,7 @@ class Compass:
         return LinkPhase(link, name, phase, "" if phase else f"the cabinet has no phase that drives {WAYS[way]}")
 
     def told(self) -> list[LinkPhase]:
-        """Returns what can be told of each link."""
+        """Returns what is found of each link."""
         return [self.crossing(it) if it.turn == CROSSING else self.turn(it) for it in self.links]
 
     def turn(self, link: Link) -> LinkPhase:
@@ -123,8 +123,8 @@ class Compass:
 
 
 def by_nema(network: Network, signal: str) -> list[LinkPhase]:
-    """Tells of each link by SUMO's own NEMA logic: its phase is the one whose state gives it way. A left turn that has
-    way under one phase and gives way under another is permissive there."""
+    """Returns what is found of each link by SUMO's own NEMA logic: its phase is the one whose state gives it a green. A
+    left turn that has the right of way under one phase and gives way under another is permissive there."""
     stages = [it for it in network.programs[signal].stages if it.name.isdigit()]
     compass = Compass(network, signal, None)
     found = []

@@ -1,5 +1,5 @@
 """Saturation flow and lost time of each lane in a run of SUMO, by the field method of the Highway Capacity Manual: when
-those pass the stop line who stood before it, of greens that begin with a queue (docs/MEASURES.md).
+vehicles of the queue pass the stop line, in greens that begin with a queue (docs/MEASURES.md).
 """
 
 import bisect
@@ -15,7 +15,8 @@ from .records import LaneFlow
 from .signals import GREEN
 
 LEAST, FIRST = 8, 4
-"""A green counts that begins with a queue of so many; its headway is that of those after the first four."""
+"""A green counts if it begins with a queue of at least this number of vehicles; its headway is that of those after the
+first four."""
 CLEARS, APART = 6.0, 6.0
 """Seconds after the end of a green in which a vehicle may still pass; between two of a queue."""
 History = dict[str, list[tuple[float, str]]]
@@ -68,7 +69,7 @@ class Crossings:
 
 
 Passages = dict[str, list[tuple[float, bool]]]
-"""Of each lane when vehicles passed its stop line, and whether each had stood before it."""
+"""For each lane, when vehicles passed its stop line, and whether each had stopped before it."""
 
 
 def passages_of(traffic: Traffic, halts: Iterable[Halt], crossed: dict[tuple[str, str], str]) -> Passages:

@@ -1,4 +1,4 @@
-"""A map written from a network: what can be told, and what is to be asked for."""
+"""A map written from a network: what can be found there, and what the user has to give."""
 
 import itertools
 from collections.abc import Iterable, Sequence
@@ -152,8 +152,8 @@ class Maker:
             self.questions.append(Question(signal, name, f"which phase has {name}? {why}", how))
 
     def let_yield(self, signal: str, rows: list[Row], tables: Tables) -> None:
-        """Lets turns yield to pedestrians and to who comes from opposite, where SUMO has them give way and the user
-        didn't give a phase; of others that cross and may be on at once the user decides."""
+        """Lets turns yield to pedestrians and to opposing vehicles, if SUMO has them give way and the user didn't give
+        a phase; the user decides about others that cross and may be on at once."""
         for row in rows:
             if (signal, row.name) in self.said.yields:
                 self.used.add((signal, row.name))

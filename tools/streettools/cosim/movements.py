@@ -31,7 +31,7 @@ class Count:
     queue_time: float = 0.0
     queue_greatest: int = 0
     left: int = 0
-    """How many stood before the line at the end."""
+    """How many were in the queue at the end."""
     greens: int = 0
     failures: int = 0
     green_time: float = 0.0
@@ -41,7 +41,7 @@ class Count:
     capacity: float | None = None
     """How many the greens could have discharged; None where that isn't known."""
     full_time: float | None = None
-    """How long as many vehicles were before the line as fit there; None where there is no limit."""
+    """How long its storage was full; None if there isn't a limit."""
 
     def passed(self, it: Passage) -> None:
         """Counts a passage."""
@@ -85,8 +85,7 @@ def greens_of(movement: Movement, greens: Greens) -> Spans:
 
 
 def failed(starts: list[float], passages: Iterable[Passage]) -> set[float]:
-    """Returns the greens, by their starts, that left somebody behind who stood there as they began, and who passed in a
-    later green."""
+    """Returns the greens, by their starts, in which a vehicle of the queue didn't pass, and passed in a later green."""
     found: set[float] = set()
     for it in passages:
         first, served = bisect_right(starts, it.arrived), bisect_right(starts, it.released) - 1
@@ -200,7 +199,7 @@ def is_of_persons(movement: Movement) -> bool:
 
 @dataclass
 class RouteCount:
-    """What is counted of the trips of a route: those that came to their end, their times of travel, delay, stops."""
+    """What is counted of the trips of a route: those that were completed, their times of travel, delay, stops."""
 
     trips: int = 0
     arrived: int = 0

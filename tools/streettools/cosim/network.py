@@ -21,7 +21,7 @@ OF_TRAINS = ("rail_crossing", "rail_signal")
 """Kinds of junctions whose signals SUMO switches by the trains themselves; no cabinet has them."""
 STRAIGHT, LEFT, RIGHT, TURN, CROSSING = "s", "l", "r", "t", "c"
 OPPOSITE = 120
-"""Approaches whose headings differ by at least so many degrees are opposite."""
+"""Approaches whose headings differ by at least this number of degrees are opposite."""
 TURNS = {"s": STRAIGHT, "l": LEFT, "L": LEFT, "r": RIGHT, "R": RIGHT, "t": TURN}
 
 
@@ -121,7 +121,7 @@ class Network:
 
     def meets(self, one: Link, other: Link) -> bool:
         """Tells whether a turn gives way to another link by the rules of the road while both are green: to a crossing,
-        and to who comes from opposite (within 60 degrees)."""
+        and to opposing vehicles (within 60 degrees)."""
         if CROSSING in (one.turn, other.turn):
             return one.turn != CROSSING
         turned = self.edges[one.approach].heading - self.edges[other.approach].heading

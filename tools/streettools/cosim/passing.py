@@ -224,7 +224,7 @@ def trips_of(
 
 
 def stood_of(halts: list[Halt]) -> Stood:
-    """Returns who stood on which edge."""
+    """Returns which vehicles stopped on which edge."""
     return {(vehicle, it.edge) for it in halts for vehicle in it.vehicles}
 
 

@@ -20,7 +20,7 @@ class Waiting(NamedTuple):
 
 
 class Crossed(NamedTuple):
-    """A person who came to a crossing and went over it; `released` is None where the run ended before."""
+    """A person who arrived at a crossing and went over it; `released` is None if the run ended before."""
 
     person: str
     cabinet: int
@@ -43,8 +43,8 @@ class Crossing(NamedTuple):
 
 
 class Buttons:
-    """The push buttons of all crossings. A button is pressed by who stands there without walk, and not again until walk
-    has begun."""
+    """The push buttons of all crossings. A person who waits there without walk presses a button, and not again until
+    walk has begun."""
 
     def __init__(self, street: Map, network: Network, sumo: Any) -> None:
         known = set(sumo.edge.getIDList())

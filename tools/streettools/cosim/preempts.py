@@ -18,7 +18,8 @@ class Preempts:
         self.on: set[int] = set()
         """The places of the inputs that are on."""
         self.left: dict[tuple[MappedPreempt, str], float] = {}
-        """Who was told to an input, with the metres driven at which its head has left the edge, or passes the line."""
+        """The vehicles reported to an input, with the metres driven at which the head has left the edge, or passes the
+        line."""
         self.served: dict[tuple[str, int], tuple[int, tuple[int, ...]]] = {}
         """The cabinet and the phases of each link."""
         for signal in street.signals:
@@ -27,7 +28,7 @@ class Preempts:
                 self.served[signal.id, link.index] = signal.cabinet, phases[link.name]
 
     def names(self) -> set[str]:
-        """Returns the classes and types that are told."""
+        """Returns the classes and types that are reported."""
         return {name for item in self.items for name in item.vehicles}
 
     def look(self, sumo: Any, watched: Watched) -> Iterator[bytes]:

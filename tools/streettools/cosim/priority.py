@@ -1,5 +1,5 @@
-"""Buses that ask for priority: a request by distance and speed, given anew where the arrival moves, taken back when the
-bus is past. A bus that is to stop before the stop line asks when it leaves the stop.
+"""Buses that ask for priority: a request by distance and speed, repeated if the arrival moves, cancelled when the bus
+has passed. A bus that is to stop before the stop line asks when it leaves the stop.
 """
 
 from collections.abc import Iterator
@@ -16,9 +16,9 @@ from .watched import Watched
 NUMBERS = range(1, 11)
 MOST_TICKS = 65_535
 SLOWEST = 5.0
-"""The speed in metres a second by which a slow bus is told."""
+"""The speed in metres a second that is assumed for a bus that is slower."""
 MOVED = 3.0
-"""By how many seconds an arrival moves before it is told anew."""
+"""By how many seconds an arrival moves before the request is repeated."""
 
 
 @dataclass
@@ -54,7 +54,7 @@ class Priority:
         return {name for bus in self.buses for name in bus.vehicles}
 
     def look(self, sumo: Any, watched: Watched, second: float) -> Iterator[bytes]:
-        """Yields the requests and cancels that are due."""
+        """Yields the requests and cancels of this second."""
         if not watched.kinds and not self.live:
             return
         wanted: dict[tuple[str, int], tuple[MappedBus, int, float]] = {}

@@ -26,12 +26,12 @@ class Kind(enum.StrEnum):
 
 
 class Movement(NamedTuple):
-    """A movement at an intersection: its cabinet (from 1), a name that is its own there (as `EBT`, `NBL`, or
-    `ped 4`), and the phase that serves it, None where an overlap does; `parents` are the phases of that overlap, or
-    the phase and the one under which it has way beside it, giving way. `service` is how a queue of it discharges: the
-    saturation flow of all its lanes in vehicles an hour, the start-up lost time and the part of yellow that is used, in
-    seconds; None where that isn't known, or where gaps decide. `storage` is how many vehicles fit before its stop line,
-    None where there is no limit."""
+    """A movement at an intersection: its cabinet (from 1), a name that is its own there (as `EBT`, `NBL`, or `ped 4`),
+    and the phase that serves it, None if an overlap does; `parents` are the phases of that overlap, or the phase and
+    the second one, under which it gives way. `service` is how a queue of it discharges: the saturation flow of all its
+    lanes in vehicles an hour, the start-up lost time and the part of yellow that is used, in seconds; None if that
+    isn't known, or if gaps decide. `storage` is how many vehicles fit before its stop line, None if there isn't a
+    limit."""
 
     cabinet: int
     name: str
@@ -46,10 +46,10 @@ class Movement(NamedTuple):
 
 
 class Passage(NamedTuple):
-    """A vehicle at one stop line. `arrived` is the second at which it would have passed the line had nothing held it
-    on its way there, `released` the second at which it passed; `delay` is what lies between, never below 0. `stopped`
-    tells that it stood on the approach, `on_green` that its movement had green at `arrived`. `phase` is the one of the
-    movement, None under an overlap."""
+    """A vehicle at one stop line. `arrived` is the second at which it would have passed the line if nothing had held it
+    on its way there, `released` the second at which it passed; `delay` is the difference, never below 0. `stopped`
+    means that it stopped on the approach, `on_green` that its movement had green at `arrived`. `phase` is the one of
+    the movement, None under an overlap."""
 
     cabinet: int
     movement: str
@@ -176,7 +176,7 @@ def written(study: Study) -> dict[str, Any]:
 
 
 def read(document: dict[str, Any], folder: pathlib.Path) -> Study:
-    """Returns the study that `written` gave; the trace stands in the folder."""
+    """Returns the study that `written` gave; the trace is in the folder."""
 
     def trip(row: list[Any]) -> Trip:
         vehicle, route, kind, passages, depart, arrive, delay, stops, waits = (*row, None)[:9]

@@ -150,7 +150,7 @@ PLACED = ("cabinets", "movements", "crossings", "lanes")
 """The tables whose rows are at a cabinet."""
 LANES = {name: name for name in ("cabinet", "lane", "greens", "vehicles", "saturation", "lost")}
 SHOWN = 12
-"""So many routes are shown, those with the most trips first."""
+"""How many routes are shown at most, those with the most trips first."""
 
 
 def cell(value: Any) -> str:

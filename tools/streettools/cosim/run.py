@@ -43,8 +43,7 @@ class Span(NamedTuple):
 
 @dataclass
 class Done:
-    """What came of a run: the study (None where nothing was recorded), times, and the fault that ended it before its
-    time."""
+    """The result of a run: the study (None if nothing was recorded), times, and the fault that ended it early."""
 
     study: Study | None
     times: Times
@@ -85,8 +84,8 @@ def preflight(given: Given, program: pathlib.Path) -> None:
 
 
 def run(given: Given, program: pathlib.Path, out: pathlib.Path, progress: Callable[[int], object]) -> Done:
-    """Runs SUMO and a session side by side, and writes what came of it into a folder, which is there. What is wrong is
-    told before SUMO starts; a run that ends before its time keeps what it has recorded."""
+    """Runs SUMO and a session side by side, and writes the results into an existing folder. Faults of the input are
+    reported before SUMO starts; a run that ends early keeps what it has recorded."""
     sumo = drive.module()
     session = Session(program, given.for_session())
     loop: Loop | None = None

@@ -17,7 +17,7 @@ RED = "rR"
 YIELDING = "gy"
 """Letters of who gives way; to the watch `Y` is the yellow behind a green with way."""
 MayYield = Callable[[Link, Link], bool]
-"""Tells whether a link may have a green that yields while another has way."""
+"""Tells whether a link may have a green that yields while another has the right of way."""
 
 
 class Light:

@@ -26,7 +26,7 @@ class Total(NamedTuple):
 
 
 class Mean(NamedTuple):
-    """A mean, and half of its interval of 95 %, None where there is one value alone."""
+    """A mean, and half of its interval of 95 %, None if there is only one value."""
 
     value: float
     half: float | None

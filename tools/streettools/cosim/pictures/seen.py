@@ -11,7 +11,7 @@ from ..movements import is_of_persons
 from ..records import Movement, Study
 
 ON_GREEN, ON_RED = "#1c7ed6", "#e8590c"
-"""Who reaches the stop line on green, and who doesn't."""
+"""The colours of vehicles that reach the stop line on green, and of those that don't."""
 
 
 class Turn(NamedTuple):

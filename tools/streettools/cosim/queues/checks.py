@@ -20,7 +20,7 @@ def tables_of(scenario: dict[str, Any]) -> dict[int, Tables]:
 
 
 def check(volumes: Volumes, scenario: dict[str, Any], seconds: float) -> None:
-    """Refuses volumes that don't fit a scenario, or that don't cover a run of so many seconds."""
+    """Refuses volumes that don't fit a scenario, or that don't cover a run of `seconds`."""
     tables = tables_of(scenario)
     cabinets_are_there(volumes, tables)
     phases_are_served(volumes, tables)
@@ -66,7 +66,7 @@ def all_of(volumes: Volumes) -> tuple[Flow | Crossing, ...]:
 
 
 def told(it: Flow | Crossing) -> str:
-    """Returns how a movement or a crossing is told in a message."""
+    """Returns how a message names a movement or a crossing."""
     return f"{'crossing' if isinstance(it, Crossing) else it.name} of cabinet {it.cabinet}"
 
 
@@ -128,12 +128,12 @@ def profiles_cover(volumes: Volumes, scenario: dict[str, Any], seconds: float) -
 
 
 def starts_at(scenario: dict[str, Any]) -> float:
-    """Returns the time of day at which a run begins, by the clock of its first cabinet."""
+    """Returns the time of day at which a run begins: the clock of its first cabinet, in seconds."""
     return scenario["cabinets"][0].get("clock", 0) / 10
 
 
 def capacities_hold(volumes: Volumes) -> None:
-    """Refuses a volume that can't come with the least headway, by the greatest factor of its profile."""
+    """Refuses a volume that is too large for the minimum headway at the largest factor of its profile."""
     for it in volumes.flows:
         steps = volumes.profiles[it.profile].steps if it.profile else ((0.0, 1.0),)
         most = it.volume * volumes.factor * max(factor for _, factor in steps)

@@ -1,7 +1,8 @@
-"""Who comes: each vehicle with its way through the street and its times of travel, each person, all drawn from a seed.
+"""The traffic: each vehicle with its route through the street and its times of travel, each person, all generated from
+a seed.
 
-All chance is in here. What comes doesn't depend on what the signals show, so a seed gives the same traffic under every
-plan, and runs can be compared in pairs.
+All that is random is in here. The traffic doesn't depend on what the signals show, so a seed gives the same traffic
+under every plan, and runs can be compared in pairs.
 """
 
 import math
@@ -37,7 +38,7 @@ class Vehicle(NamedTuple):
 
 
 class Person(NamedTuple):
-    """A person who comes to a crossing, by its place in the list of all, at a second."""
+    """A person who arrives at a crossing (by its place in the list of all) at a second."""
 
     at: float
     crossing: int
@@ -45,14 +46,14 @@ class Person(NamedTuple):
 
 @dataclass(frozen=True)
 class Demand:
-    """All who come, in the order of their times."""
+    """All vehicles and persons, in the order of their times."""
 
     vehicles: tuple[Vehicle, ...]
     persons: tuple[Person, ...]
 
 
 def arrivals(draw: random.Random, rates: Rates, least: float) -> Iterator[float]:
-    """Yields the seconds at which vehicles come by chance: gaps are exponential beyond a least headway (a shifted
+    """Yields the seconds at which vehicles arrive at random: gaps are exponential beyond a minimum headway (a shifted
     negative exponential; with 0 a Poisson process), by a rate that may change."""
     at, left = 0.0, -math.log(1.0 - draw.random())
     for end, rate in rates:
@@ -101,7 +102,7 @@ class Network:
         return places[-1]
 
     def driven(self, draw: random.Random, entry: float, first: int) -> Vehicle:
-        """Returns a vehicle that comes to a first movement, with its whole way."""
+        """Returns a vehicle that enters at a first movement, with its whole route."""
         places = [first]
         travels: list[float] = []
         while True:
@@ -140,7 +141,8 @@ def route(flows: list[Flow]) -> str:
 
 
 def demand_of(volumes: Volumes, seed: int, start: float, seconds: float) -> Demand:
-    """Draws who comes in a run that begins at a time of day. Each movement and each crossing has draws of its own."""
+    """Generates the traffic of a run that begins at a time of day. Each movement and each crossing has random numbers
+    of its own."""
     network = Network(volumes.flows)
     vehicles: list[Vehicle] = []
     persons: list[Person] = []

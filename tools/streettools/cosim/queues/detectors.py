@@ -16,7 +16,7 @@ class PhaseDetectors:
         self.on = b"veh %d %d on" % (cabinet, phase)
         self.off = b"veh %d %d off" % (cabinet, phase)
         self.lines: list[tuple[StopLine, int]] = []
-        """Queues that are seen, each with how many vehicles have to stand there."""
+        """Queues that are seen, each with the number of vehicles from which it is."""
         self.until = self.seen = -1.0
         """Up to when those who drive by are on a detector; the last second at which one was."""
         self.is_on = False

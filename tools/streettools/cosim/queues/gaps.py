@@ -13,7 +13,7 @@ from typing import NamedTuple
 from .lines import ALWAYS, EXACT, NEVER, Passed, StopLine
 
 RECENT = 64
-"""So many passages of a stop line are kept for those who yield to it."""
+"""How many passages of a stop line are kept for the movements that yield to it."""
 
 
 class Foe:

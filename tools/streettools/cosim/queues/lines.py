@@ -71,12 +71,14 @@ class StopLine:
         return min(max(self.open_until - (self.ready[lane] - self.gap), 0.0), self.gap)
 
     def closes(self, at: float) -> None:
-        """Green ends: who reaches the line within the part of the yellow that is used can't stop, and passes."""
+        """Ends green. A vehicle that reaches the line within the part of the yellow that is used can't stop, and
+        passes."""
         self.open_until = min(self.open_until, at + self.use)
 
     def discharged(self, until: float, may_pass: Callable[[int], bool] | None = None, most: int = MANY) -> list[Passed]:
-        """Returns those who pass before a second, as far as the line is open; they leave the queue. If `may_pass` says
-        no of the first, there is no room for it: it is asked about again at that second. `most` is how many pass."""
+        """Returns those who pass before a second, as far as the line is open; they leave the queue. If `may_pass` is
+        false for the first one, the room for it is missing, and it is tried again at that second. At most `most`
+        vehicles pass."""
         queue, ready = self.queue, self.ready
         passed: list[Passed] = []
         end = self.open_until + EXACT

@@ -11,7 +11,7 @@ if TYPE_CHECKING:
 
 @dataclass(frozen=True)
 class Said:
-    """The seconds from each cabinet to the next, None where they aren't said, and the phases that only the rings need,
+    """The seconds from each cabinet to the next, None if they aren't given, and the phases that only the rings need,
     each with its cabinet."""
 
     travel: tuple[float | None, ...] = ()

@@ -99,7 +99,7 @@ class Street:
     def run(
         self, cabinets: Cabinets, signals: Signals, advance: Callable[[int], None], policy: Acts | None = None
     ) -> None:
-        """Runs all steps; `advance` is told each of them, a policy may act before each."""
+        """Runs all steps; `advance` is called with each of them, a policy may act before each."""
         signals.shown(cabinets.shown)
         if policy is not None:
             policy.heard(cabinets.shown)
@@ -114,7 +114,7 @@ class Street:
             advance(step)
 
     def requests(self, step: int) -> list[bytes]:
-        """Returns what cabinets are told before a step: push buttons, then detectors that have changed."""
+        """Returns the requests to cabinets before a step: push buttons, then detectors that have changed."""
         requests, now = self.presses[step], step * self.size
         for it in self.detectors.values():
             if it.is_awake:

@@ -1,4 +1,4 @@
-"""The volumes of a street, as their TOML file says them: who comes, how many lanes there are, where they go on.
+"""The volumes of a street, as their TOML file has them: vehicles and persons, lanes, and where vehicles go on.
 
 docs/QUEUES.md says what each name means. Times are seconds, times of day are seconds from midnight, volumes are
 vehicles an hour.
@@ -75,9 +75,9 @@ class Yielding:
 
 @dataclass(frozen=True)
 class Flow:
-    """A movement of an approach: its phase, its volume, its lanes, what sees it, where it goes on. `permitted` are
+    """A movement of an approach: its phase, its volume, its lanes, its detectors, where it goes on. `permitted` are
     phases in which it may turn after it yields. `storage` is how many vehicles fit between the stop lines before and
-    this one, None where there is no limit."""
+    this one, None if there isn't a limit."""
 
     cabinet: int
     name: str
