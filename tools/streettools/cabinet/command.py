@@ -176,7 +176,7 @@ def answered(cabinet: Cabinet) -> int:
 def main(arguments: list[str] | None = None) -> int:
     """Runs the command, and returns the exit status."""
     words = parser().parse_args(arguments)
-    # also where it was started with SIGINT ignored, as a shell does behind `&`
+    # even if it was started with SIGINT ignored, as a shell does after `&`
     signal.signal(signal.SIGINT, signal.default_int_handler)
     try:
         return answered(cabinet_of(words))

@@ -1,10 +1,10 @@
-"""Proves all that the program stands on, and the program, by one call of the kit's own command for all crates, `rt ci`,
-in a copy of their sources.
+"""Proves the program and all that it depends on by one call of the kit's own command for all crates, `rt ci`, in a copy
+of their sources.
 
-The kit proves several crates side by side, those with the longest chain above them first, and gives a crate the
-processors that no other waits for. A check there reads what the libraries below state, and not their proofs, and
-leaves nothing for a check after an edit. Beside itself the kit keeps each crate that passed, so that a call that was
-interrupted goes on where it was, and what a gate has proved on this machine isn't proved again.
+The kit proves several crates side by side, those with the longest chain of dependents first, and gives a crate the
+processors that no other crate waits for. A check there reads what the libraries below state, and not their proofs, and
+keeps nothing for a check after an edit. The kit keeps each crate that passed in its own folder, so that an interrupted
+call continues where it was, and what a gate has proved on this machine isn't proved again.
 """
 
 import os

@@ -10,7 +10,7 @@ def command() -> str | None:
 
 
 def folder() -> pathlib.Path | None:
-    """Returns the kit's folder, None where there is no kit."""
+    """Returns the kit's folder, None if the kit isn't found."""
     found = command()
     return pathlib.Path(found).resolve().parent.parent if found else None
 

@@ -85,7 +85,7 @@ def sums_of(file: pathlib.Path, text: bytes) -> dict[str, str]:
 
 
 def take(top: pathlib.Path, file: pathlib.Path, wanted: str | None) -> str:
-    """Puts the proof into the checkout and returns what its maker says; Refused if it can't be taken over."""
+    """Puts the proof into the checkout and returns what its maker says; raises Refused if it isn't accepted."""
     members = contents(file, wanted)
     sums, begun, now = sums_of(file, members["sums"]), time.time(), crates.sums(top)
     program = record.program_of(top)

@@ -145,7 +145,7 @@ def known(arguments: list[str]) -> int | None:
 
 
 def main(given: list[str]) -> int:
-    """Answers the words behind the first, which says why there is no proved program."""
+    """Answers the words after the first, which says why a proved program isn't there."""
     why, *arguments = given
     status = known(arguments)
     if status is not None:

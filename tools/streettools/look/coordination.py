@@ -150,8 +150,8 @@ def draw_corner(axes, corner, height, tall):
 
 
 def draw_bands(axes, found, heights, start, end):
-    """Draws the bands of both ways, with their widths in seconds where they have room: between two cabinets alone one
-    higher than the other."""
+    """Draws the bands of both ways, with their widths in seconds if they have room; with only two cabinets, one width
+    is higher than the other."""
     for (spans, delays), colour, name in zip(found, (OUTBOUND, INBOUND), ("outbound", "inbound")):
         for low, high in spans:
             if low >= end or high + max(delays) <= start:
@@ -170,8 +170,8 @@ def draw_bands(axes, found, heights, start, end):
 
 
 def draw_planned(axes, found, delays, heights, corner):
-    """Draws dashed outlines of a plan's bands, outbound and inbound, cycle by cycle, by the clock of a cabinet. Returns
-    what explains them."""
+    """Draws dashed outlines of a plan's bands, outbound and inbound, cycle by cycle; `corner` has the cabinet whose
+    clock is used. Returns their entries for the legend."""
     keys = []
     for band, colour, name, away in zip(found, (OUTBOUND, INBOUND), ("outbound", "inbound"), delays):
         look = {"facecolor": "none", "edgecolor": colour, "linewidth": 1.2, "linestyle": (0, (4, 2))}
@@ -199,7 +199,7 @@ def left_out(corners):
 
 def draw(corners, travel, path, plan=None, began=None):
     """Draws the time-space diagram and writes it; `travel` has the ticks from each cabinet to the next, or is None, and
-    `plan` a plan's greatest bands, outbound and inbound."""
+    `plan` a plan's widest bands, outbound and inbound."""
     start, end = corners[0].start, corners[0].end
     tall = 1.5 + 0.85 * len(corners)
     title = f"Coordinated greens, ticks {start} to {end}: above each line outbound (ring 1), below it inbound (ring 2)"

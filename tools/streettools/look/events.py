@@ -135,7 +135,7 @@ class Log:
         self.lengths = lengths
 
     def cycled(self, cycle):
-        """Keeps a local zero, and whether the cycle that begins is in step or corrected, and how."""
+        """Keeps a local zero, and whether the cycle that begins is on offset or corrected, and how."""
         self.add(cycle.tick, CYCLE_STATE_CHANGE, LOCAL_ZERO)
         if cycle.error is None:
             return

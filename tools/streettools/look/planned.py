@@ -1,7 +1,7 @@
-"""The greatest bands of a plan, as `arterial band` writes them, and at which ticks of a trace they come.
+"""The widest progression bands of a plan, as `arterial band` writes them, and their ticks in a trace.
 
-A time of the cycle is the cabinets' clock modulo the cycle. Where the clock stands is told by the target of a frame,
-which is the clock less the offset; where offsets refer to the end of green, the window is added.
+A time of the cycle is the cabinets' clock modulo the cycle. The clock follows from the target of a frame, which is the
+clock less the offset; if offsets refer to the end of green, the window is added.
 """
 
 from typing import NamedTuple

@@ -46,7 +46,7 @@ class Checked(TraceReader):
         super().__init__(stream, advance)
 
     def answered(self):
-        """Waits for the answer of the check, which what is shown as it is read must stand behind."""
+        """Waits for the answer of the check; what is shown while the trace is read must come after it."""
         if self.check:
             self.check.told()
 
@@ -58,8 +58,8 @@ class Checked(TraceReader):
 
 
 def read(name, is_checked, show):
-    """Opens a trace, and lets it be shown. A terminal shows a bar, after a second. Where the text can't be shown, that
-    it is no trace is told first."""
+    """Opens a trace, and lets it be shown. A terminal shows a bar, after a second. If the text can't be shown, the
+    fault that it isn't a trace is reported first."""
     stream, called = text(name, is_checked)
     check = shown = None
     try:

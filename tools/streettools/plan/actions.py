@@ -26,7 +26,7 @@ BOOK, PICTURES = ".xlsx", (".svg", ".png", ".pdf")
 
 
 def tell(notes: list[str]) -> None:
-    """Tells on standard error what was entered, or couldn't be taken as it stands."""
+    """Prints to standard error what was entered, or couldn't be used as it is."""
     for note in notes:
         say("plan", note)
 

@@ -1,4 +1,4 @@
-"""A workbook as a sheet: the pages that `book` writes, also where people have changed them.
+"""A workbook as a sheet: the pages that `book` writes, even if people have changed them.
 
 Pages are read row by row, as far as there are cells: a cell far outside takes no memory for those before it.
 """
@@ -19,10 +19,10 @@ from ..shared.given import Defect, Unreadable
 
 TITLES = {title: name for name, title in BLOCKS.items()}
 MOST_OCTETS = 64 * 2**20
-"""A workbook has at most so many octets when it is unpacked: 64 intersections with all tables have 12 MiB."""
+"""The maximum number of bytes of an unpacked workbook: 64 intersections with all tables have 12 MiB."""
 MOST_PAGES, MOST_ROWS, MOST_COLUMNS = 200, 2**21, 256
-"""Of a workbook so many pages are read, of these together so many rows, and of a row so many cells. A page of a street
-has at most 65 columns; Excel has at most so many rows on a page."""
+"""How many pages of a workbook are read, how many rows of these together, and how many cells of a row. A page of a
+street has at most 65 columns; Excel has at most 2**20 rows on a page."""
 
 
 @dataclass
@@ -60,7 +60,8 @@ def pages(content: bytes) -> Iterator[Page]:
 
 
 def page_of(sheet, most: int) -> tuple[Page, int]:
-    """Returns a page, and how many rows were read for it, which are so many at most. Rows without cells are dropped."""
+    """Returns a page, and how many rows were read for it (at most one more than `most`). Rows without cells are
+    dropped."""
     sheet.reset_dimensions()
     page, count = Page(sheet.title), 0
     for row in sheet.iter_rows(max_row=most + 1, values_only=True):

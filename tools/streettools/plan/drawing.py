@@ -179,7 +179,7 @@ def order_lines(drawing: Drawing | None, rings: list[tuple]) -> list[str]:
 
 
 def read_order(given: object) -> list[tuple]:
-    """Returns the phases of both rings of a sequence. Bars are for the reader's eye; numbers that are no phases are
+    """Returns the phases of both rings of a sequence. Bars are for the reader's eye; numbers that aren't phases are
     kept."""
     if not isinstance(given, list) or len(given) != 2 or not all(isinstance(it, str) for it in given):
         raise Wrong('a sequence is two lines, as ["2 1 | 3 4", "6 5 | 7 8"]')

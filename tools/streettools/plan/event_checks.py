@@ -9,7 +9,7 @@ from .reading import Street
 from .sentences import many
 
 SOON = 60
-"""A vehicle that arrives within so many ticks, and that asks at all, was probably meant to arrive in seconds."""
+"""A vehicle that arrives within this number of ticks, and that asks at all, was probably meant to arrive in seconds."""
 
 
 def coordinated(tables: Tables) -> list[int]:

@@ -14,7 +14,7 @@ from ..shared.given import Wrong
 
 
 class Unit(enum.Enum):
-    """What a cell's number counts; its value is how many of it make a second, 0 where it is no time."""
+    """What a cell's number counts; its value is how many of it make a second, 0 if it isn't a time."""
 
     SECONDS = 1
     TENTHS = 10
@@ -151,7 +151,7 @@ def tenths(column: int, of: dict[int, Any]) -> Time:
 
 
 def count(column: int, of: dict[int, Any]) -> Time:
-    """Returns a number that is no time."""
+    """Returns a number that isn't a time."""
     return Time(column, Unit.COUNT, of[column])
 
 

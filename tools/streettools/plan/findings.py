@@ -12,7 +12,7 @@ class Level(enum.Enum):
     """How much a finding weighs."""
 
     ERROR = "error"
-    """The program refuses it, or a sheet can't be taken."""
+    """The program refuses it, or a sheet isn't accepted."""
     WARNING = "warning"
     """The program takes it; hardly anybody means it."""
     NOTE = "note"
@@ -78,7 +78,7 @@ def in_order(findings: list[Finding]) -> list[Finding]:
 
 
 def ranked(findings: list[Finding]) -> str:
-    """Returns how many warnings there are of each rank, in brackets; nothing if there is no warning."""
+    """Returns how many warnings there are of each rank, in brackets; nothing if there aren't any."""
     counts = [(sum(it.rank is rank for it in findings), rank.value) for rank in Rank]
     words = ", ".join(f"{count} {rank}" for count, rank in counts if count)
     return f" ({words})" if words else ""

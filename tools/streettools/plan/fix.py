@@ -129,7 +129,7 @@ class Ring:
         return costs
 
     def times_behind(self, phases: list[int], tail: list[np.ndarray], total: int) -> dict[int, int]:
-        """Returns the times of some last phases, which have so many seconds in all."""
+        """Returns the times of some last phases, which total `total` seconds."""
         found = {}
         for phase, costs in zip(phases, tail[1:]):
             found[phase] = chosen(costs, self.waited(phase), total)
@@ -137,7 +137,7 @@ class Ring:
         return found
 
     def times(self, length: int, zero: int, hold: int) -> dict[int, int]:
-        """Returns the times of all phases at the least cost, on a side of so many seconds."""
+        """Returns the times of all phases at the least cost, on a side of `length` seconds."""
         if self.at is None:
             return self.times_behind(self.phases, self.tail, length)
         ends = self.by_end(zero, hold)

@@ -88,7 +88,7 @@ def read_rows(it: Given, found: Read) -> None:
 
 
 def read_sequences(it: Given, found: Read) -> None:
-    """Takes up the orders of the rings. Partners stand at the place of the phases that they face."""
+    """Takes up the orders of the rings. Partners are at the place of the phases that they face."""
     below = it.below("sequence")
     below.allow(map(str, range(1, 17)))
     for number in range(1, 17):

@@ -34,7 +34,7 @@ HINTS = (
     (re.compile(r""), re.compile(r"True|False|None"), "JSON has true, false and null"),
     (re.compile(r""), re.compile(r"[A-Za-z_]"), "texts and names are in double quotes"),
 )
-"""What stands before and at a fault, and what that tells."""
+"""The text before a fault and at it, and what that means."""
 
 
 @dataclass(frozen=True)
@@ -49,7 +49,7 @@ class Place:
 
 
 class NoJson(Exception):
-    """A text is no JSON: where, and what was expected there."""
+    """A text isn't valid JSON: where, and what was expected there."""
 
     def __init__(self, place: Place, words: str):
         super().__init__(f"{place}: {words}")
@@ -161,8 +161,8 @@ def space(text: str, at: int) -> int:
 
 
 def place_of(text: str, path: str) -> Place:
-    """Returns where the value of a path stands in a text that is JSON; where a part of the path isn't there, where the
-    part before it stands."""
+    """Returns where the value of a path is in a text that is JSON; if a part of the path isn't there, where the part
+    before it is."""
     decoder, at = json.JSONDecoder(), space(text, 0)
     for step in [] if path == "." else steps(path):
         below = member(decoder, text, at, step) if isinstance(step, str) else item(decoder, text, at, step)
@@ -173,7 +173,7 @@ def place_of(text: str, path: str) -> Place:
 
 
 def member(decoder: json.JSONDecoder, text: str, at: int, name: str) -> int | None:
-    """Returns where the value of a name stands in the object at a place: the last of that name."""
+    """Returns where the value of a name is in the object at a place: the last of that name."""
     if text[at] != "{":
         return None
     found, at = None, space(text, at + 1)

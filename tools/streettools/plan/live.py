@@ -34,7 +34,7 @@ SECONDS, TRIES = 3.0, 3
 MOST_SECONDS = 900.0
 """How long a whole walk may take."""
 MOST_OBJECTS = 20_000
-"""So many objects a walk keeps at most: a controller with 255 rows in each table has fewer in these columns."""
+"""How many objects a walk keeps at most: a controller with 255 rows in each table has fewer in these columns."""
 TOO_BIG, NO_SUCH_NAME = 1, 2
 """Error statuses of RFC 1157."""
 

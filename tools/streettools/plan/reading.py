@@ -133,7 +133,7 @@ def read_units(said: object) -> str:
 
 
 def read_names(top: Given) -> names.Names:
-    """Returns the names that stand at the top of a sheet."""
+    """Returns the names at the top of a sheet."""
     sections = top.below("sections")
     sections.allow(map(str, range(1, 9)))
     called = {number: sections.read(str(number), one_line) for number in range(1, 9)}

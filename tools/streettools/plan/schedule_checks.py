@@ -31,7 +31,7 @@ def listed(street: Street) -> list[Entry]:
 
 
 def entries_of(street: Street) -> list[Entry]:
-    """Returns the entries in the order of the day; of those of one section and second the last alone, which counts."""
+    """Returns the entries in the order of the day; of those of one section and second only the last, which counts."""
     latest = {(it.section, it.second): it for it in listed(street)}
     return sorted(latest.values())
 

@@ -27,7 +27,7 @@ SYS_NAME: Name = SYSTEM + (5, 0)
 STAGED, REPEATED, VERIFIED, ACCEPTED, REFUSED = 1, 2, 3, 4, 8
 OUTCOMES = {5: "wrong id", 6: "wrong part", 7: "not verified", REFUSED: "refused"}
 TRIES = 128
-"""So many ids are tried until the device takes one: each must be greater than those before it."""
+"""How many ids are tried until the device takes one: each must be greater than those before it."""
 MOST_SHOWN = 3
 Cells = list[list[Any]]
 """Cells with their new values, as a scenario's download has them."""

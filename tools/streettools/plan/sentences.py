@@ -23,7 +23,7 @@ def many(phases: Iterable[object]) -> str:
 
 
 def service_words(tables: Tables, phase: int) -> str:
-    """Returns of what the least service of a phase is made."""
+    """Returns the parts of a phase's minimum service, in words."""
     walk, clear = (value(tables, ("phase", phase, column)) for column in (2, 3))
     if least_service(tables, phase) > least_green(tables, phase):
         return f"walk {walk} + flashing don't walk {clear}"
@@ -91,7 +91,7 @@ class Sentences:
         )
 
     def rule_4(self, row: int) -> str:
-        """The list names phases of the other ring alone."""
+        """The list names only phases of the other ring."""
         other = next(it for it in sorted(concurrent(self.tables, row)) if self.ring(it) == self.ring(row))
         return (
             f"{self.phase(row)} and {self.phase(other)} are both in ring {self.ring(row)}, which shows one phase at a "

@@ -36,8 +36,8 @@ class Source:
 
 
 def load(path: str, named: str | None = None) -> Source:
-    """Reads a file. `named` is the file with the names of a scenario; where it isn't said, that beside the scenario, if
-    there is one."""
+    """Reads a file. `named` is the file with the names of a scenario; the default is the one next to the scenario, if
+    it exists."""
     return source_of(path, content_of(path), lambda: names_of(path, named))
 
 

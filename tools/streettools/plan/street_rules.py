@@ -52,7 +52,7 @@ def rule_3(tables: Tables) -> Iterator[int]:
 
 
 def rule_4(tables: Tables) -> Iterator[int]:
-    """The list names phases of the other ring alone."""
+    """The list names only phases of the other ring."""
     ring = {it: value(tables, ("phase", it, 22)) for it in ALL}
     return phase_rule(tables, lambda it: all(ring[other] != ring[it] for other in concurrent(tables, it)))
 
@@ -91,7 +91,7 @@ def rule_8(tables: Tables) -> Iterator[int]:
 
 
 def side_turns(tables: Tables, number: int, ring: int) -> list[frozenset[int]]:
-    """Returns the sides in the order in which a ring of a sequence comes to them, each as often as it does."""
+    """Returns the sides in the order in which a ring of a sequence serves them, each as often as it does."""
     side = sides_by_phase(tables)
     turns: list[frozenset[int]] = []
     for phase in value(tables, ("sequence", number, ring)):
@@ -123,7 +123,7 @@ def sooner(tables: Tables, phase: int) -> int | None:
 
 
 def rule_11(tables: Tables) -> Iterator[int]:
-    """The red revert is no longer than the least service and clearance of any other phase together."""
+    """The red revert is no longer than the minimum service and clearance of any other phase together."""
     return phase_rule(tables, lambda it: sooner(tables, it) is None)
 
 

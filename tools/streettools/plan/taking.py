@@ -9,7 +9,7 @@ from .sources import Source
 
 
 class Refused(Fault):
-    """A file or words can't be taken, in lines."""
+    """A file or words aren't accepted; the lines say why."""
 
 
 def taken(path: str, named: str | None = None) -> Source:

@@ -10,7 +10,7 @@ from .pattern_rules import has_pair
 from .sentences import many, seconds
 
 TIGHT = 10
-"""Below so many ticks to spare a split only just fits."""
+"""With fewer ticks to spare than this, a split only just fits."""
 
 
 def rooms(laid: Layout, partners: list[int]) -> dict[int, int]:

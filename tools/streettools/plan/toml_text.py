@@ -110,7 +110,7 @@ def text(sheet: dict[str, Any]) -> str:
 
 
 def read(content: str) -> dict[str, Any]:
-    """Returns the sheet that a text is; Unreadable, with line and column, where it is no TOML."""
+    """Returns the sheet that a text is; raises Unreadable, with line and column, if it isn't valid TOML."""
     try:
         return plain(content)
     except ValueError as fault:

@@ -35,11 +35,11 @@ class Groups:
     lanes: dict[str, dict[str, str]] = field(default_factory=dict)
 
     def link(self, record: str, way: str, said: str) -> None:
-        """Says something of an approach, where nothing is said yet."""
+        """Sets a record of an approach, unless it is already set."""
         self.links.setdefault(record, {}).setdefault(way, said)
 
     def lane(self, record: str, lanes: str, said: str) -> None:
-        """Says something of a lane group, where nothing is said yet."""
+        """Sets a record of a lane group, unless it is already set."""
         self.lanes.setdefault(record, {}).setdefault(lanes, said)
 
     def columns(self) -> list[str]:

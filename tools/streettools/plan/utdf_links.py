@@ -23,7 +23,7 @@ UP, TIME = ("Up ID", "Up Node"), ("Time", "Travel Time", "TravelTime")
 TAKEN = ("Name", "Distance", "Speed", *UP, *TIME)
 FEET_A_SECOND, METRES_A_SECOND = 5280 / 3600, 1 / 3.6
 FARTHEST = 64
-"""Over so many nodes without signals a way may lead."""
+"""A way passes at most this number of nodes without signals."""
 
 
 def turned(lanes: str) -> str:

@@ -19,7 +19,7 @@ SECTIONS = ("network", "nodes", "links", "lanes", "timeplans", "phases", "plans"
 INTERVAL = re.compile(r"([0-9]{1,3}) minute counts?", re.IGNORECASE)
 NUMBER = re.compile(r"[+-]?([0-9]{1,15}(\.[0-9]{0,15})?|\.[0-9]{1,15})([eE][+-]?[0-9]{1,2})?")
 MOST_ROWS = 200_000
-"""A file has at most so many lines: 5,000 intersections have fewer."""
+"""A file has at most this number of lines: 5,000 intersections have fewer."""
 
 
 class Entry(str):

@@ -187,7 +187,7 @@ class Walked:
         )
 
     def take_cell(self, name: Name, cell: tuple, value: int | bytes) -> None:
-        """Takes up an object that is a cell, where its value may stand there."""
+        """Takes up an object that is a cell, if its value is allowed there."""
         kind = kinds()[cell]
         if isinstance(kind, Lists):
             fits = isinstance(value, bytes) and len(value) <= kind.longest

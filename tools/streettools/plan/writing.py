@@ -56,7 +56,7 @@ def named(of: dict[str, fields.Field], column: int) -> tuple[str, fields.Field]:
 
 
 def say_cell(sheet: dict[str, Any], tables: Tables, cell: tuple) -> None:
-    """Says what stands in a cell, other than of splits, patterns and sequences."""
+    """Writes the value of a cell, other than of splits, patterns and sequences, into a sheet."""
     match cell:
         case ("phase", phase, 21):
             say_options(say(sheet, "phase", str(phase)), value(tables, cell), 0xFFFF)
@@ -106,7 +106,8 @@ def say_split(row: dict[str, Any], usual: Tables, tables: Tables, number: int, p
 
 
 def say_patterns(sheet: dict[str, Any], usual: Tables, tables: Tables, partners: Collection[int]) -> None:
-    """Says the patterns and splits that differ. A split of one defined pattern alone stands with it."""
+    """Writes the patterns and splits that differ into a sheet. A split that only one defined pattern uses is written
+    with it."""
     cells = differing(usual, tables)
     changed, touched = ({cell[1] for cell in cells if cell[0] == table} for table in ("split", "pattern"))
     runs = {it: value(tables, ("pattern", it, 4)) for it in tables.patterns()}
@@ -125,7 +126,7 @@ def say_patterns(sheet: dict[str, Any], usual: Tables, tables: Tables, partners:
 
 
 def say_pattern(row: dict[str, Any], usual: Tables, tables: Tables, number: int) -> None:
-    """Says what of a pattern differs from the standard and from what is entered where nothing is said."""
+    """Writes what of a pattern differs from the standard and from the defaults into its row."""
     cycle = value(tables, ("pattern", number, 2))
     entered = {"split": number if number in SPLITS else 0, "sequence": 1} if cycle else {}
     for name, each in fields.PATTERN_FIELDS.items():

@@ -33,7 +33,7 @@ NEAR = 2
 
 
 def beside(old: str, new: str, width: int) -> str:
-    """Returns two texts side by side in so many columns: the lines that differ, and those near them."""
+    """Returns two texts side by side in `width` columns: the lines that differ, and those near them."""
     with tempfile.TemporaryDirectory() as folder:
         files = [pathlib.Path(folder, name) for name in ("old", "new")]
         for file, text in zip(files, (old, new)):

@@ -31,7 +31,7 @@ WAYS: dict[str, tuple[re.Pattern[str], dict[str, str]]] = {
     "< as ≤": (re.compile(r" < | nat_lt "), {" < ": " ≤ ", " nat_lt ": " nat_le "}),
     "a conjunct dropped": (re.compile(rf" (?:×|&&) (?:[^()×&→⊎{{}}\n]|{INNER})+?(?= ×| &&| →| ⊎| }}|[)\n])"), {}),
 }
-"""What is weakened in a text, and what stands for it then; nothing if it is not among these."""
+"""What is weakened in a text, and what replaces it; an empty text if it isn't among these."""
 
 
 def units(stated: str, text: str) -> Iterator[str]:
@@ -52,7 +52,7 @@ def units(stated: str, text: str) -> Iterator[str]:
 
 
 def pools(top: pathlib.Path) -> list[list[tuple[str, str]]]:
-    """Returns what is drawn from, group by group: each unit with its place."""
+    """Returns the units to choose from, group by group: each with its place."""
     found: list[list[tuple[str, str]]] = [[] for _ in range(6)]
     for place, stated in sorted(reached.Statements(top).items()):
         text = (top / place.partition("#")[0]).read_text(encoding="utf-8")

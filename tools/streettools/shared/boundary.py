@@ -10,10 +10,10 @@ from .saying import say
 from .status import Status
 
 TRACEBACK = "--traceback"
-"""The word that any command takes: Python's own account of a fault goes to standard error, too."""
+"""The word that any command takes: Python's own account of a fault also goes to standard error."""
 
 HINT = "./arterial prove makes one, --program names another"
-"""What is added where there is no program."""
+"""The hint that is added if a program isn't found."""
 
 OWN = __name__.partition(".")[0]
 """The name of this package: a module of it that is missing is a fault of the tool."""

@@ -13,7 +13,7 @@ STAGES = {"e": "entry", "t": "track", "d": "dwell", "x": "exit"}
 WORDS = {"S": "start-up", "F": "free", "E": "ending", "X": "flash", "K": "seek", "C": "coordinated"}
 DAY = 864_000
 MOST_KEPT = 4096
-"""Of modes and frames that come over and over, so many are kept with what they say."""
+"""How many modes and frames that are often repeated are kept with their meaning."""
 
 Changes = tuple[tuple[int, str, str], ...]
 """Phases, each with the letter before and the letter now."""
@@ -76,7 +76,7 @@ def changed_elsewhere(scenario: dict[str, Any], number: int) -> bool:
 
 
 class Cabinet:
-    """A cabinet of a trace. It is told of frames, inputs and ends of downloads in their order."""
+    """A cabinet of a trace. It takes frames, inputs and ends of downloads in their order."""
 
     def __init__(self, scenario: dict[str, Any], number: int) -> None:
         setup = scenario["cabinets"][number - 1]
@@ -146,9 +146,9 @@ class Cabinet:
         return Cycle(frame.tick, mode.number, pickup, frame.target, self.error(mode.number, frame.target), elapsed)
 
     def came_round(self, before: Frame, frame: Frame) -> bool:
-        """Returns whether the counter, 0 in the frame before too, has gone round the cycle since. While it stands at 0
-        a line is written for a signal that changes; it stands for less than a cycle there, and for a tick where ticks
-        are skipped."""
+        """Returns whether the counter has gone round the cycle since the frame before, in which it was also 0. While it
+        is at 0, a line is written for a signal that changes; it stays at 0 for less than a cycle, and for one tick when
+        ticks are skipped."""
         if (frame.vehicles, frame.pedestrians) == (before.vehicles, before.pedestrians):
             return True
         known = self.plan(mode_of(frame.mode).number)
@@ -158,8 +158,8 @@ class Cabinet:
         return frame.tick - self.zero >= (known.cycle if dwells else known.cycle // 2)
 
     def error(self, pattern: int, target: int) -> int | None:
-        """Returns by how many ticks a cycle begins late or early, on the side from which it is corrected: early where
-        cycles are drawn out (dwell, add-only, and shortway where that takes no more cycles), else late."""
+        """Returns by how many ticks a cycle begins late or early, on the side from which it is corrected: early if
+        cycles are lengthened (dwell, add-only, and shortway if that takes no more cycles), else late."""
         known = self.plan(pattern)
         if known is None:
             return None
@@ -227,14 +227,14 @@ def opened(scenario: dict[str, Any], number: int) -> Cabinet:
 
 
 class Clock:
-    """A cabinet's clock, in ticks since midnight; it may gain or lose a tick at each so many."""
+    """A cabinet's clock, in ticks since midnight; it may gain or lose a tick at each multiple of a number of ticks."""
 
     def __init__(self, setup: dict[str, Any]) -> None:
         self.value, self.tick = int(setup.get("clock", 0)), 0
         self.gain, self.lose = int(setup.get("gain", 0)), int(setup.get("lose", 0))
 
     def at(self, tick: int) -> int:
-        """Returns the time of day after a tick that is no earlier than the last time the clock was set."""
+        """Returns the time of day after a tick, which must not be before the last time the clock was set."""
         drift = 0
         if self.gain:
             drift += tick // self.gain - self.tick // self.gain
@@ -243,7 +243,7 @@ class Clock:
         return (self.value + tick - self.tick + drift) % DAY
 
     def named(self, ticks: int, tick: int) -> bool:
-        """Takes over a time that a reply names; returns whether the clock was set to another than it showed."""
+        """Takes over a time that a reply names; returns whether it differs from what the clock showed."""
         if ticks == self.at(tick):
             return False
         self.value, self.tick = ticks, tick

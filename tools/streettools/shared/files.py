@@ -22,9 +22,9 @@ def blamed(path: Path, *names: str) -> Iterator[None]:
 
 @contextlib.contextmanager
 def whole(path: Path, is_private: bool = False) -> Iterator[str]:
-    """Gives the name of a file beside `path`, which takes its place at the end; where that isn't reached nothing is
-    left of it and what stood at `path` still stands. What is no file, as a pipe, is written as it goes. A private file
-    can be read by its owner only."""
+    """Gives the name of a file next to `path`, which replaces `path` at the end. If the end isn't reached, the new file
+    is removed and `path` stays as it is. If `path` isn't a regular file, as a pipe, it is written directly. A private
+    file can be read by its owner only."""
     if os.path.exists(path) and not os.path.isfile(path):
         with blamed(path):
             yield str(path)

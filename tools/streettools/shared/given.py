@@ -76,7 +76,7 @@ def content_of(path: pathlib.Path | str) -> bytes:
 
 
 def is_of(value: Any, kind: Any) -> bool:
-    """Tells whether a value is of a kind; true and false are no numbers."""
+    """Tells whether a value is of a kind; true and false aren't numbers."""
     return isinstance(value, kind) and (kind in (bool, object) or not isinstance(value, bool))
 
 
@@ -244,7 +244,7 @@ class Given:
         return tuple(found)
 
     def numbered(self, name: str, most: int) -> Iterator[tuple[int, "Given"]]:
-        """Yields the tables below a name that are named by numbers from 1, as `phase.2`; "2 6" stands for both."""
+        """Yields the tables below a name that are named by numbers from 1, as `phase.2`; "2 6" means both."""
         for key, it in self.below(name).table.items():
             numbers = key.replace(",", " ").split()
             if not numbers or not all(is_place(word, most) for word in numbers):
@@ -256,7 +256,7 @@ class Given:
                     yield number, self.inner(it, self.at(f"{name} {number}"))
 
     def spread(self, name: str, most: int) -> "Given":
-        """Returns the table at a name with one number from 1 in each of its names; "2 6" stands for both."""
+        """Returns the table at a name with one number from 1 in each of its names; "2 6" means both."""
         found = self.below(name)
         table: dict[str, object] = {}
         for key, value in found.table.items():

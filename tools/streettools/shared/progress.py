@@ -1,4 +1,4 @@
-"""Bars of progress, on a terminal alone, and only where Python's tqdm is there."""
+"""Bars of progress, only on a terminal, and only if Python's tqdm is installed."""
 
 import contextlib
 import sys

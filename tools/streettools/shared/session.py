@@ -74,13 +74,13 @@ class Rounds:
         self.taken = 0
 
     def next(self, count: int) -> int:
-        """Returns how many ticks may be requested now: at most so many, and those left in the round."""
+        """Returns how many ticks may be requested now: at most `count`, and those left in the round."""
         now = min(count, self.left)
         self.left, self.taken = self.left - now or self.ticks, self.taken + now
         return now
 
     def requests(self, count: int) -> Iterator[bytes]:
-        """Yields the requests of so many ticks."""
+        """Yields the requests of `count` ticks."""
         while count:
             now = self.next(count)
             count -= now
@@ -114,7 +114,7 @@ class Session:
         self.end()
 
     def exchanged(self, text: bytes, count: int) -> list[Answer]:
-        """Writes requests, each with its newline, and returns so many answers. It reads while it writes, so that
+        """Writes `count` requests, each with its newline, and returns their answers. It reads while it writes, so that
         neither side waits for the other."""
         found: list[Answer] = []
         while text:

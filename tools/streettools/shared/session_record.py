@@ -62,8 +62,8 @@ def without_end(runs: Runs, end: Runs) -> Runs:
 
 
 def is_read(request: bytes, answer: list[bytes]) -> bool:
-    """Tells whether a request is a message on the stream of priority that changes nothing: one that is met with
-    silence, or that is answered and is no Set."""
+    """Tells whether a request is a message on the stream of priority that changes nothing: one that is ignored, or that
+    is answered and isn't a Set."""
     words = request.split(b" ")
     if words[0] != b"frame" or words[2] != b"priority":
         return False
@@ -105,7 +105,7 @@ def read(request: bytes) -> Read:
 
 @functools.lru_cache(MOST_KNOWN)
 def read_again(request: bytes) -> Read:
-    """Reads an input or ticks: the same requests come again and again."""
+    """Reads an input or ticks; the results are cached, since the same requests are repeated."""
     kind, number, *words = request.decode("ascii").split(" ")
     if kind == "tick":
         return Read(Brought(0, TICKS, int(number), True))
@@ -133,8 +133,8 @@ class SessionRecord:
         self.brought: list[Brought] = []
 
     def answered(self, request: bytes | None, answer: list[bytes]) -> bool:
-        """Takes a request and the lines of its answer without the dot; no request stands for the scenario, and for
-        the end of input. Tells whether it is kept."""
+        """Takes a request and the lines of its answer without the dot; None means the scenario, or the end of input.
+        Tells whether it is kept."""
         if answer and answer[0].startswith(b"? "):
             return False
         if request is None:

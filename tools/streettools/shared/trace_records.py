@@ -76,7 +76,7 @@ class Note(NamedTuple):
 
 
 class End(NamedTuple):
-    """The end, after so many rounds."""
+    """The end, after a number of rounds."""
 
     rounds: int
 

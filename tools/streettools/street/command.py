@@ -41,7 +41,7 @@ def say(told: object) -> None:
 
 
 class Telling(Hearer):
-    """Says when a session begins anew."""
+    """Reports when the street begins a new session."""
 
     def __init__(self) -> None:
         self.sessions = 0
@@ -64,7 +64,7 @@ def scenario_of(program: pathlib.Path, text: bytes) -> dict[str, Any]:
 
 
 def text_of(path: str) -> bytes:
-    """Returns the scenario of a file in one line: that which a timing sheet makes, too."""
+    """Returns the scenario of a file in one line; a timing sheet is accepted as well."""
     if is_sheet(path):
         from ..plan import taking  # takes a while
 

@@ -74,8 +74,8 @@ class Downloads:
         self.greatest[cabinet] = max(self.greatest[cabinet], number)
 
     def next(self, cabinet: int) -> int | None:
-        """Returns a number that a cabinet takes for a download, None if there is none. It is some way above the
-        greatest, so that a manager that counts on from that one doesn't meet it by chance."""
+        """Returns a number that a cabinet takes for a download, None if none is left. It is above the greatest by a
+        gap, so that a manager that counts on from that one doesn't use the same number."""
         greatest = self.greatest[cabinet]
         return min(greatest + GAP, LAST_NUMBER) if greatest < LAST_NUMBER else None
 

@@ -42,7 +42,7 @@ class Place:
 
 
 def places(first: Place, count: int, by_address: bool) -> list[Place]:
-    """Returns the places of so many cabinets: one address and port after the other, or one port at one address after
+    """Returns the places of `count` cabinets: one address and port after the other, or one port at one address after
     the other."""
     if not by_address:
         return [Place(first.address, first.port + at if first.port else 0) for at in range(count)]
@@ -52,7 +52,7 @@ def places(first: Place, count: int, by_address: bool) -> list[Place]:
 
 @contextlib.contextmanager
 def opened(wanted: list[Place]) -> Iterator[list[socket.socket]]:
-    """Gives a socket for each place; where one can't be had none is left open."""
+    """Gives a socket for each place; if one isn't available, none is left open."""
     with contextlib.ExitStack() as stack:
         yield [stack.enter_context(bound(place)) for place in wanted]
 

@@ -1,6 +1,6 @@
-"""Records of a street: the trace of each session, and its requests, by which the street can be had again.
+"""Records of a street: the trace of each session, and its requests, with which the street can be replayed.
 
-The trace stands at the named path when the session is over, the requests beside it while it runs. Reads are left out
+The trace is at the named path when the session is over, the requests are next to it while it runs. Reads are left out
 of both, since they change nothing. Only their owner can read them.
 """
 

@@ -1,7 +1,7 @@
 """A session of the program (`streettools.shared.session`), for callers that ask at the same time.
 
-Requests go out in the order in which they are asked, and answers come in the same order. So many are without answer at
-once as a pipe holds: neither side waits for the other then.
+Requests go out in the order in which they are asked, and answers come in the same order. A pipe can hold all that are
+without answer at once, so that neither side waits for the other.
 """
 
 import asyncio
@@ -19,7 +19,7 @@ MOST = 16
 """How many requests may be without answer at once. A request has at most 2,962 octets, and a pipe holds 65,536."""
 
 Heard = Callable[[bytes | None, Answer], None]
-"""Is told each request with its answer; None stands for the scenario and for the end of input."""
+"""Is called with each request and its answer; None means the scenario, or the end of input."""
 
 
 def frame(cabinet: int, octets: bytes, stream: str = "priority") -> bytes:

@@ -39,7 +39,7 @@ def rounds_for(scenario: dict[str, Any]) -> int:
 
 
 class Hearer:
-    """Hears what a street is told and answers, and may bring inputs. A record and a panel are hearers."""
+    """Hears what a street receives and answers, and may bring inputs. A record and a panel are hearers."""
 
     called = "what hears of the street"
     """What a fault is said to be in."""
@@ -50,16 +50,16 @@ class Hearer:
         """A session begins."""
 
     def heard(self, request: bytes | None, answer: Answer) -> None:
-        """A request was answered; none stands for the scenario, and for the end of input."""
+        """A request was answered; None means the scenario, or the end of input."""
 
     def ended(self, died: Died | None) -> None:
         """The session is over, or its program died."""
 
     def ended_round(self, ticks: int) -> None:
-        """A round was ended by so many ticks, since it was full of messages."""
+        """A round was ended, which took `ticks` ticks, since it was full of messages."""
 
     def due_inputs(self, ticks: int) -> list[bytes]:
-        """Returns the inputs that are due when so many ticks were taken, as requests."""
+        """Returns the inputs that are pending when `ticks` ticks were taken, as requests."""
         return []
 
     def is_full(self) -> bool:
@@ -129,7 +129,7 @@ class Street:
                 hearer.heard(request, answer)
 
     async def message(self, cabinet: int, octets: bytes, stream: str = "priority") -> bytes | None:
-        """Returns a cabinet's reply to a message; None where it is silent, or where the street begins anew."""
+        """Returns a cabinet's reply to a message; None if it doesn't answer, or if the street begins a new session."""
         if len(octets) > LONGEST:
             return None
         self.make_room()
@@ -148,8 +148,8 @@ class Street:
             return [None] * len(several)
 
     async def datagram(self, cabinet: int, octets: bytes, manager: Manager = NOBODY) -> bytes | None:
-        """Returns a cabinet's reply to a datagram, which comes behind the ticks that are due. Where time goes on by
-        messages it does so behind the reply, and the next message waits."""
+        """Returns a cabinet's reply to a datagram, which comes after the pending ticks. If messages advance time, it
+        advances after the reply, and the next message waits."""
         if self.changing is not None:
             await self.gate()
         if not self.after_message:
@@ -160,8 +160,8 @@ class Street:
 
     @contextlib.asynccontextmanager
     async def turn(self) -> AsyncIterator[None]:
-        """The turn of one datagram, whatever is asked of the cabinets for it: behind the ticks that are due; those
-        that a message takes go by at its end."""
+        """The turn of one datagram, whatever is asked of the cabinets for it. It begins after the pending ticks; the
+        ticks that a message takes are taken at its end."""
         await self.gate()
         self.turns += 1
         try:
@@ -192,7 +192,7 @@ class Street:
             return False
 
     async def live(self) -> None:
-        """Lets time go on, until the street is told to end; a program that dies is raised, and so is a fault."""
+        """Advances time until the street is to end; raises the fault that ended it, as when the program crashes."""
         while not self.ended.is_set():
             await self.take(self.pace.due())
             if self.session.is_over:
@@ -253,7 +253,7 @@ class Street:
             pass
 
     def wake(self) -> None:
-        """Lets what is due now be done at once."""
+        """Lets pending work be done at once."""
         self.woken.set()
 
     def end(self) -> None:
@@ -280,8 +280,8 @@ class Street:
         return True
 
     async def close(self) -> None:
-        """Ends the session, if that wasn't done, and lets all hear of it, also where one of them fails; then the first
-        fault is raised, or the death of the program."""
+        """Ends the session, if that wasn't done, and reports it to all hearers, even if one of them fails; then raises
+        the first fault, or the program's crash."""
         if self.closed is self.session:
             return
         self.closed = self.session

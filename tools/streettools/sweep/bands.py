@@ -16,8 +16,8 @@ ASKED = ("version", "rounds", "ticks", "cabinets")
 
 @functools.lru_cache(maxsize=1024)
 def asked(program: Path, question: str, seconds: float) -> tuple[int | None, int | None]:
-    """Returns the widths of the greatest bands of a plan, outbound and inbound: 0 where there is none, None where
-    none can be asked for."""
+    """Returns the widths of the widest bands of a plan, outbound and inbound: 0 if there isn't one, None if the program
+    can't say."""
     answer = ran(program, "band", given=question.encode(), seconds=seconds)
     found = read_bands(answer.out.decode(errors="replace")) if answer.status == 0 else None
     outbound, inbound = (it.width if it else 0 for it in found) if found else (None, None)

@@ -26,9 +26,8 @@ SHARED = ("inputs", "loads", "priority", "frames", "faults")
 
 @dataclass(frozen=True)
 class Built:
-    """A variant that was made: its scenario as text and as a value, the street of its bands, the inputs that were
-    drawn, which aren't in the value (those that stand there come before them), and who comes where the study has
-    volumes."""
+    """A variant that was made: its scenario as text and as a value, the street of its bands, the generated inputs,
+    which aren't in the value (those that are there come before them), and the traffic if the study has volumes."""
 
     text: bytes
     scenario: dict[str, Any]
@@ -121,7 +120,7 @@ class Builder:
         return Built(f'{short},"inputs":[{words}]}}'.encode(), scenario, street, found)
 
     def fitted(self, came: Queued, variant: Variant) -> Queued:
-        """Returns who comes, with what the timing sheet of a variant has said already."""
+        """Returns the traffic, with what the timing sheet of a variant has said already."""
         other = next((it.scenario for it in variant.values if isinstance(it, Option) and it.scenario), None)
         facts = facts_name(other or self.study.base.file or "")
         if facts is None:

@@ -16,7 +16,7 @@ from .crew import Crew, Lost, Rows
 
 PACKAGES = "python3-dask python3-distributed python3-cryptography"
 ANSWER = 15
-"""So many seconds a scheduler has to answer."""
+"""How many seconds a scheduler has to answer."""
 SETTINGS = {
     "distributed.comm.timeouts.connect": "60s",
     "distributed.comm.timeouts.tcp": "120s",

@@ -135,7 +135,7 @@ def sweep_over(words: argparse.Namespace) -> int:
 
 
 def tell(outcomes: Counter[str], first: dict[str, str], before: int, seconds: float, out: Path) -> None:
-    """Says what came of the runs."""
+    """Prints the results of the runs."""
     parts = [f"{outcomes[it]:,} {it}" for it in Outcome if outcomes[it]]
     kept = f", {before:,} of them before" if before else ""
     say("sweep", f"{sum(outcomes.values()):,} runs ({', '.join(parts)}{kept}) in {seconds:.1f} s: {out}")

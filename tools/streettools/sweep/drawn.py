@@ -50,8 +50,7 @@ def each(value: Any) -> list[Any]:
 
 
 def arrivals(draw: random.Random, per_hour: float, seconds: float) -> list[float]:
-    """Returns the seconds at which something comes that comes by chance, so many times an hour on average (a Poisson
-    process)."""
+    """Returns the seconds of random arrivals, by their number an hour on average (a Poisson process)."""
     found: list[float] = []
     if per_hour <= 0:
         return found

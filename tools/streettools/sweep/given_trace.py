@@ -37,7 +37,7 @@ LONGEST = 600.0
 
 
 class Begun:
-    """Stands for a study of which only the beginning of what is measured is known, in ticks."""
+    """Replaces a study, of which only the start of what is measured is known, in ticks."""
 
     def __init__(self, start: int) -> None:
         self.study = self

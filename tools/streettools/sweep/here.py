@@ -19,7 +19,7 @@ from .carried import Parcel
 from .crew import TRIES, Crew, Lost, Rows
 
 LOOK = 0.5
-"""So often, in seconds, it is looked how much memory a worker has."""
+"""The seconds between two looks at how much memory a worker has."""
 PAGE, MIB = os.sysconf("SC_PAGE_SIZE"), 1 << 20
 PROCESSES = multiprocessing.get_context("spawn")
 
@@ -30,8 +30,8 @@ def processors() -> int:
 
 
 def share(workers: int) -> int:
-    """Returns the octets of memory that each of so many workers may have, if nothing else is said: no more together
-    than the machine has, and no more than a processor's share."""
+    """Returns the bytes of memory that each of `workers` workers may have by default: together no more than the machine
+    has, and each no more than a processor's share."""
     return os.sysconf("SC_PHYS_PAGES") * PAGE // max(workers, os.cpu_count() or 1)
 
 
@@ -88,7 +88,8 @@ class Worker:
             return 0
 
     def rows(self, indexes: list[int]) -> Rows:
-        """Returns what comes of some variants. One that has more memory than it may is ended, and has died."""
+        """Returns the results of some variants. If the worker has more memory than it may, it is ended, and Died is
+        raised."""
         try:
             self.pipe.send(indexes)
             while not self.pipe.poll(LOOK):
@@ -181,8 +182,8 @@ class Here(Crew):
 
 @contextlib.contextmanager
 def workers(count: int | None, memory: int | None) -> Iterator[Here]:
-    """Gives processes on this machine: as many as processors, unless a number is given, each with so many MiB of
-    memory at most for its Python."""
+    """Gives processes on this machine: as many as processors, unless a number is given, each with at most `memory` MiB
+    for its Python."""
     number = count or processors()
     most = memory * MIB if memory else share(number)
     with tempfile.TemporaryDirectory(prefix="arterial-sweep-", ignore_cleanup_errors=True) as folder:

@@ -82,7 +82,7 @@ class Journal:
             place += len(line)
 
     def row(self, key: str) -> list[Any]:
-        """Returns what came of a run."""
+        """Returns the results of a run."""
         self.file.seek(self.places[key])
         row: list[Any] = json.loads(self.file.readline())["row"]
         return row

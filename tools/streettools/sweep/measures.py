@@ -20,7 +20,7 @@ class Scope(enum.Enum):
 
 
 class Part(enum.Enum):
-    """What of a run is followed for a measure alone: how greens end, vehicles that wait, people that wait and walk,
+    """What of a run is followed only for some measures: how greens end, vehicles that wait, people that wait and walk,
     cycles of a pattern. All else is always followed."""
 
     ENDINGS = "endings"
@@ -88,7 +88,7 @@ def spread(name: str, which: str, scale: int = 10) -> Callable[[list[Any]], Valu
 
 
 def planned(way: int) -> Callable[[list[Any]], Value]:
-    """Returns the width of the greatest band of the plan."""
+    """Returns the width of the plan's widest band."""
     return lambda parts: None if parts[0].planned[way] is None else parts[0].planned[way] / 10
 
 

@@ -32,11 +32,11 @@ from .variants import Variant
 Traffic = dict[tuple[int, int], Count]
 """The vehicles of each cabinet and phase."""
 PAUSES = (0, 1, 5)
-"""So many seconds before each try of a run."""
+"""The seconds before each try of a run."""
 
 
 class Outcome(enum.StrEnum):
-    """What became of a run."""
+    """The outcome of a run."""
 
     DONE = "done"
     REFUSED = "refused"
@@ -96,7 +96,7 @@ class Runner:
         self.planned = any(name in ("band_outbound", "band_inbound") for _, name in scopes)
 
     def row(self, variant: Variant) -> list[Any]:
-        """Returns what comes of a variant: outcome, words, hash of the scenario, and its measures."""
+        """Returns the results of a variant: outcome, words, hash of the scenario, and its measures."""
         blank = [None] * (len(self.columns) + len(self.own))
         name = None
         try:

@@ -59,7 +59,7 @@ class Prepared:
         return ["run", *(it.name for it in self.study.parameters), *seed, "outcome", "words", "scenario", *measured]
 
     def line(self, index: int, row: list[Any]) -> list[Any]:
-        """Returns a line of the table: the variant, and what came of it."""
+        """Returns a line of the table: the variant, and its results."""
         variant = self.variants.at(index)
         seed = [variant.seed] if self.study.seeds else []
         return [index + 1, *variant.shown(), *seed, *row]

@@ -39,7 +39,7 @@ class Button:
 
 @dataclass(slots=True)
 class Stream:
-    """Inputs of one kind (`veh` or `ped`) that come to a phase: their rounds, and for vehicles 1 for on, 0 for off."""
+    """The inputs of one kind (`veh` or `ped`) of a phase: their rounds, and for vehicles 1 for on, 0 for off."""
 
     cabinet: int
     kind: str

@@ -1,7 +1,7 @@
 """Counts what happened in a run: each green, each wait, each local zero, each download, each note.
 
-Only what is asked for is counted. Inputs are taken phase by phase, where something of the phase changes: a call begins
-and ends by them alone while its signal stays the same.
+Only what is asked for is counted. Inputs are taken phase by phase, where something of the phase changes: while its
+signal stays the same, a call begins and ends only by them.
 """
 
 import functools
@@ -87,7 +87,7 @@ class PhaseTally:
         self.called = None
 
     def ends(self, tick: int, ending: str | None) -> None:
-        """Counts a green that ends; a vehicle that is still there calls anew."""
+        """Counts a green that ends; a vehicle that is still there calls again."""
         begun, self.green = self.green, None
         if begun is not None and begun >= self.start:
             self.counts.green.add(tick - begun)
@@ -163,7 +163,7 @@ class CabinetTally:
         self.row = row
 
     def opens(self, row: Row, tick: int) -> None:
-        """Takes the first frame: its colours are no beginnings of what is counted."""
+        """Takes the first frame: its colours don't count as beginnings."""
         green, _ = turned(b"R" * 16, row[2], b"G")
         for phase in green:
             self.cabinet.green[phase] = tick

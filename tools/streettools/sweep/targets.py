@@ -40,7 +40,7 @@ class Put:
         return self.path or f"the cell {list(self.cell or ())}"
 
     def value(self, value: Any) -> Any:
-        """Returns what comes to the place."""
+        """Returns the value that the place gets."""
         is_plain = self.times == 1 and self.plus == 0
         if is_plain or not isinstance(value, NUMBER) or isinstance(value, bool):
             return value

@@ -11,7 +11,7 @@ from ..shared import lines
 from ..shared.trace_records import Frame, Load, Note, Round
 
 BLOCK = 1 << 20
-"""So many bytes are read at once."""
+"""How many bytes are read at once."""
 NUMBER = rb"(0|[1-9][0-9]{0,8})"
 LAST = rb"(?![^\n])"
 FRAME = rb"\nF %s %s ([GYCR]{16}) ([WFD]{16}) ([A-Z0-9a-z]+) %s %s %s" % ((NUMBER,) * 5)
@@ -88,7 +88,7 @@ def happenings(stream: BinaryIO) -> Iterator[Row | Said | Over]:
 
 
 def round_at(block: bytes, at: int) -> int:
-    """Returns the number of the round whose line stands at a place."""
+    """Returns the number of the round whose line is at a place."""
     end = block.find(b"\n", at + 1)
     return lines.round_of((block[at + 1 :] if end < 0 else block[at + 1 : end]) + b"\n").number
 

@@ -13,8 +13,8 @@ from .reasons import Reason, Reasons, called_by, is_called, reasons
 from .replay import Replay, Shown, Text
 
 HORIZON = 9_000
-"""A phase is watched for so many ticks (15 minutes) after the tick that is asked for, if it neither comes nor goes
-before."""
+"""A phase is watched for this number of ticks (15 minutes) after the tick that is asked for, if it neither begins nor
+ends before."""
 
 WORDS = {Colour.GREEN: "green", Colour.YELLOW: "yellow change", Colour.CLEAR: "red clearance", Colour.RED: "red"}
 
@@ -28,7 +28,7 @@ class Spell(NamedTuple):
 
 
 class Call(NamedTuple):
-    """A call: the tick from which it stands in a row, and what calls at that tick."""
+    """A call: the tick since which it has lasted, and what called at that tick."""
 
     since: int
     by: tuple[Caller, ...]
@@ -72,7 +72,7 @@ class Story(NamedTuple):
 
     @property
     def waited(self) -> int | None:
-        """The ticks from the call to the green; None where there is no call or no green."""
+        """The ticks from the call to the green; None without a call or a green."""
         return None if self.came is None or self.call is None else self.came - self.call.since
 
     @property
@@ -125,7 +125,7 @@ class Watch:
         return tuple(Spell(first, until, reason) for (first, reason), until in zip(self.turns, untils))
 
     def called(self, number: int) -> Call | None:
-        """Returns the call that stands at a tick."""
+        """Returns the call that lasts at a tick."""
         return next((call for first, call in reversed(self.calls) if first <= number), None)
 
     def word(self, number: int | None) -> str:

@@ -1,6 +1,6 @@
 """What a page has of a trace: each cabinet's frames, local zeros, barriers, ends of greens, calls and marks.
 
-Frames are kept as they stand in the trace; all else that needs the tables in force is worked out here, as for the other
+Frames are kept as they are in the trace; all else that needs the tables in force is worked out here, as for the other
 pictures.
 """
 

@@ -18,7 +18,7 @@ FIELDS = {
     "calls": ("tick", "kind", "number", "on"),
     "marks": ("tick", "kind", "words"),
 }
-"""The tables of a cabinet and the columns of each. Rows stand in the order of their ticks."""
+"""The tables of a cabinet and the columns of each. Rows are in the order of their ticks."""
 
 
 class Table:

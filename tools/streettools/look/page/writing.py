@@ -1,7 +1,7 @@
 """Puts a page together: its frame, its style, the drawing library, its code and its data, in one file.
 
 The library is D3 as Debian's `node-d3` packages it: it has scales, axes, zoom by wheel, pinch and drag, and searches in
-rising lists. It stands in the page whole, with its licence, so that the page needs no network.
+rising lists. The page has all of it, with its licence, so that the page needs no network.
 """
 
 import html
@@ -46,7 +46,7 @@ def part(name: str) -> str:
 
 
 def library(path: pathlib.Path) -> str:
-    """Returns a file of the library; where it is missing, what is to be installed is told."""
+    """Returns a file of the library; if it is missing, the fault names the package to install."""
     try:
         return path.read_text(encoding="utf-8")
     except FileNotFoundError:

@@ -57,7 +57,8 @@ class Cabinet:
         self.in_order = InOrder()
 
     async def answer(self, octets: bytes, manager: Manager) -> bytes | None:
-        """Returns the reply to a datagram. What is no message, or is the cabinet's own matter, the cabinet answers."""
+        """Returns the reply to a datagram. The cabinet itself answers if the datagram isn't a valid message, or only
+        concerns the cabinet."""
         asked = asked_of(octets) if len(octets) <= LONGEST else None
         if asked is None or self.is_of_the_cabinet(asked):
             passed_on = functools.partial(self.street.datagram, self.number, octets)
@@ -196,7 +197,7 @@ class Cabinet:
             raise Fault(status if asked.version == V1 else of_the_cabinet(status, it.arcs, it.value), at)
 
     def test(self, at: int, it: Binding, count: int) -> None:
-        """Raises what can't be set of the front's, in a message of so many bindings."""
+        """Raises Fault if a binding can't set an object of the front, in a message of `count` bindings."""
         if it.arcs not in WRITABLE:
             raise Fault(NOT_WRITABLE, at)
         if it.value.tag not in (WHOLE_TIME if it.arcs == GLOBAL_TIME else (INTEGER,)):
@@ -239,8 +240,7 @@ class Cabinet:
 
 
 def absent(name: Arcs) -> Field:
-    """Returns what stands in the place of a value, where there is none: whether the object is missing or only this
-    instance of it (RFC 3416)."""
+    """Returns what replaces a missing value: that the object doesn't exist, or only this instance of it (RFC 3416)."""
     return Field(NO_SUCH_INSTANCE if has_type(name, TYPES) else NO_SUCH_OBJECT, b"")
 
 
@@ -250,7 +250,7 @@ def value_of(value: Field) -> int:
 
 
 class Fronts:
-    """The fronts of a street's cabinets; a street that begins anew has new ones."""
+    """The fronts of a street's cabinets; a new session of the street has new ones."""
 
     def __init__(self, street: Street) -> None:
         self.street = street

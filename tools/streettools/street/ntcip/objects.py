@@ -86,7 +86,7 @@ async def global_time(front: Front) -> Field:
 
 
 async def set_id(front: Front) -> Field:
-    """Returns a number that changes with the tables in force, also if the street begins anew."""
+    """Returns a number that changes with the tables in force, and also if the street begins a new session."""
     (version,) = await front.side.numbers(VERSION_OF_TABLES)
     return whole((version + SESSION_STEP * front.street.renewals) % SET_IDS)
 

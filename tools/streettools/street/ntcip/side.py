@@ -9,7 +9,7 @@ NOTHING = Field(NULL, b"")
 
 
 class Silent(Exception):
-    """The cabinet doesn't answer, as when the street begins anew."""
+    """The cabinet doesn't answer, as when the street begins a new session."""
 
 
 class Side:

@@ -17,7 +17,7 @@ LOOPBACK_NAMES = ("localhost", "127.0.0.1", "[::1]")
 FIRST_SECONDS = 10.0
 """How long a connection may take until it is a page's web socket. A browser opens another one when it needs it."""
 MOST_ASKING, SPARE = 64, 64
-"""How many connections there may be that are no page's; how many files are left to the rest of the street."""
+"""How many connections may be open that don't belong to a page; how many files are left to the rest of the street."""
 NO_FILES = (errno.EMFILE, errno.ENFILE)
 
 
@@ -49,7 +49,7 @@ def room(pages: int) -> int:
 
 
 class Crowd:
-    """The connections that are no page's web socket. Where there are too many the one that came first goes."""
+    """The connections that aren't a page's web socket. If there are too many, the oldest is dropped."""
 
     def __init__(self) -> None:
         self.asking: dict[asyncio.BaseProtocol, asyncio.TimerHandle] = {}

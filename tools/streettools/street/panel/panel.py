@@ -117,10 +117,10 @@ class Panel(Hearer):
             self.pages.discard(page)
             writer.cancel()
 
-    # what pages are told
+    # what pages receive
 
     def head(self) -> dict[str, Any]:
-        """Returns what a page is told as it opens."""
+        """Returns what a page receives as it opens."""
         called = {"names": self.names, "start": self.start()}
         laid = {"facts": self.shown.facts, "ticks": self.shown.scenario["ticks"]}
         return {**laid, **called, "all": True, **self.shown.news(0)}
@@ -150,7 +150,7 @@ class Panel(Hearer):
             page.tell(text)
 
     async def news(self) -> None:
-        """Tells pages what has changed since they were told last, again and again."""
+        """Sends pages what has changed since their last message, repeatedly."""
         while True:
             await asyncio.sleep(EVERY)
             if self.pages:
@@ -163,11 +163,12 @@ class Panel(Hearer):
                 page.known = self.known()
 
     def known(self) -> tuple[int, int]:
-        """Returns up to what a page knows all that is told now: the session, and the last change."""
+        """Returns up to what a page knows all after this message: the session, and the last change."""
         return self.shown.sessions, self.shown.change
 
     def news_behind(self, known: tuple[int, int]) -> dict[str, Any]:
-        """Returns what a page is told that knows so much; of another session all."""
+        """Returns what a page receives that knows a session up to a change; if the session is a different one,
+        everything."""
         return self.shown.news(known[1]) if known[0] == self.shown.sessions else self.head()
 
     async def details(self) -> None:
@@ -191,7 +192,7 @@ class Panel(Hearer):
         return await self.street.message(cabinet, octets)
 
     async def tables(self) -> None:
-        """Lays cabinets out anew that have other tables in force, and tells pages."""
+        """Draws the layout of cabinets again whose tables in force have changed, and sends it to pages."""
         while True:
             await asyncio.sleep(EVERY)
             for cabinet in self.shown.outdated() if self.pages else ():

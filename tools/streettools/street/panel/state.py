@@ -62,7 +62,7 @@ class Shown:
             self.greens.popleft()
 
     def row(self) -> list[Any]:
-        """Returns what a page is told of it."""
+        """Returns what a page receives of it."""
         return [self.tick, self.vehicles, self.pedestrians, self.mode, self.counter, self.target, self.version,
                 self.since, self.ped_since]  # fmt: skip
 
@@ -84,7 +84,7 @@ def note_text(line: str) -> str:
 
 
 class PanelState(Hearer):
-    """All that pages show. What changes gets the next number, so that a page can be told what it doesn't know yet."""
+    """All that pages show. Each change gets the next number, so that a page receives what it doesn't know yet."""
 
     called = "the panel"
 
@@ -147,7 +147,7 @@ class PanelState(Hearer):
         self.ending = f"the program ended: {died}" if died else None
 
     def news(self, known: int) -> dict[str, Any]:
-        """Returns what has changed since a page knew so much."""
+        """Returns what has changed since the change `known`."""
         return {
             "now": self.ticks,
             "round": self.round,
