@@ -71,8 +71,8 @@ class Managers:
         self.asked: collections.OrderedDict[Manager, tuple[int, float]] = collections.OrderedDict()
         """The number of the last message by which each manager has asked for a transaction, and when it came."""
         self.lost: collections.OrderedDict[Manager, None] = collections.OrderedDict()
-        """Managers whose transaction ended differently from what they asked for. They get this answer until they ask
-        for another."""
+        """Managers whose transaction ended differently from what they asked for. They get an error until they ask for
+        another."""
         self.endings: collections.OrderedDict[Manager | str, bool] = collections.OrderedDict()
         """Whether the last transaction of a manager, or of an address, ended as it was asked for."""
 
