@@ -198,7 +198,7 @@ class Ask:
 
 
 def ask_of(octets: bytes, community: bytes, tables: Tables) -> Ask | None:
-    """Returns what a frame asks for; None where the cabinet stays silent."""
+    """Returns what a frame asks for; None if the cabinet stays silent."""
     message = read(octets)
     if message is None or message.community != community or message.pdu is Pdu.RESPONSE:
         return None
@@ -206,7 +206,7 @@ def ask_of(octets: bytes, community: bytes, tables: Tables) -> Ask | None:
 
 
 def fault_of(wish: Wish, outcome: Outcome | None) -> Fault | None:
-    """Returns the fault that a Set is answered; None where it was done."""
+    """Returns the fault that a Set is answered; None if it was done."""
     if isinstance(wish, Fault):
         return wish
     answer = outcome.answer if outcome else None

@@ -81,7 +81,7 @@ def band_line(street: Street, is_inbound: bool) -> bytes:
     windows = {it.cabinet: window(street, it.tables, 2 if is_inbound else 1) for it in passages}
 
     def closed(time: int) -> int | None:
-        """Returns the first cabinet whose window lacks a time; None where the time is open."""
+        """Returns the first cabinet whose window lacks a time; None if the time is open."""
         return next((it.cabinet for it in passages if (time + it.after) % cycle not in windows[it.cabinet]), None)
 
     is_open = [closed(time) is None for time in range(cycle)]

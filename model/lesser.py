@@ -11,7 +11,7 @@ from model.words import Mode, Signal
 
 
 def hurry(past: Past, mode: Mode, goal: frozenset[int] | None, p: int) -> Preempt | None:
-    """Returns the row of the preempt for which a phase makes way, None where it has its full times."""
+    """Returns the row of the preempt for which a phase makes way, None if it has its full times."""
     number = stage_of(mode)
     return preempt(past.tables, number) if number and p not in (goal or ()) else None
 

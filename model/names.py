@@ -135,6 +135,6 @@ def is_readable(oid: Oid) -> bool:
 
 
 def next_oid(oid: Oid) -> Oid | None:
-    """Returns the first readable name that comes after a name; None where there is none."""
+    """Returns the first readable name that comes after a name; None if there is none."""
     place = bisect.bisect_right(READABLE, oid)
     return READABLE[place] if place < len(READABLE) else None

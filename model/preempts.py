@@ -88,7 +88,7 @@ def dwell_ends(row: Preempt, last: Moment, is_still_called: bool) -> bool:
 
 
 def stage_after(tables: Tables, last: Moment, called: list[int]) -> Mode | None:
-    """Returns the stage that follows that of the last frame; None where the preempt is over."""
+    """Returns the stage that follows that of the last frame; None if the preempt is over."""
     mode = last.frame.mode
     row, number = preempt(tables, mode.number), mode.number
     if mode.kind is Kind.ENTRY:

@@ -71,7 +71,7 @@ def leader(places: Places, phases: frozenset[int]) -> int:
 
 def after_tick(places: Places, number: int, phases: frozenset[int]) -> tuple[Places, int]:
     """Returns the requests at a tick of this number, and the active one or 0: those that are gone depart, then one
-    of the live ones for these phases (none where no pattern binds) is active."""
+    of the live ones for these phases (none if no pattern binds) is active."""
     if not places:
         return places, 0
 

@@ -40,7 +40,7 @@ class Hold(Enum):
 
 
 def runs_out(past: Past, p: int) -> Colour | None:
-    """Returns the colour to which a clearance that is over at this tick goes; None where none is."""
+    """Returns the colour to which a clearance that is over at this tick goes; None if none is."""
     shown = past.last.frame.lights.of[p]
     if shown not in (Colour.YELLOW, Colour.CLEAR):
         return None
@@ -166,7 +166,7 @@ class Rings:
         return self.plan is not None and p not in self.plan.coordinated and self.counter >= self.plan.force[p]
 
     def held(self, ring: int, p: int) -> Hold | None:
-        """Returns why the Green phase of a ring does not turn Yellow; None where it does."""
+        """Returns why the Green phase of a ring does not turn Yellow; None if it does."""
         if self.is_forced_off(p):
             return None
         if p not in self.done:

@@ -95,7 +95,7 @@ def visible(low: int, high: int) -> Shape:
 
 
 def hexadecimal(text: Any) -> bytes | None:
-    """Returns the octets that a text has in hexadecimal digits, None where it has none."""
+    """Returns the octets that a text has in hexadecimal digits, None if it has none."""
     if not isinstance(text, str) or not re.fullmatch(r"(?:[0-9A-Fa-f]{2})*", text):
         return None
     return bytes.fromhex(text)
@@ -178,7 +178,7 @@ TABLES = {table.value: table for table in Table}
 
 
 def cell_named(value: Any) -> Cell | None:
-    """Returns the cell that a list names, None where it names none."""
+    """Returns the cell that a list names, None if it names none."""
     if not isinstance(value, list) or not value or not isinstance(value[0], str) or value[0] not in TABLES:
         return None
     table, places = TABLES[value[0]], value[1:-1]

@@ -24,7 +24,7 @@ class Tables:
         self.memo: dict[Any, Any] = {}
 
     def at(self, cell: Cell) -> Value:
-        """Returns the value of a cell: 0 or empty where nothing was put, start-up 1, split mode 2."""
+        """Returns the value of a cell: 0 or empty if nothing was put, start-up 1, split mode 2."""
         value = self.values.get(cell)
         if value is not None:
             return value

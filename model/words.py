@@ -53,7 +53,7 @@ STAGES = frozenset((Kind.ENTRY, Kind.TRACK, Kind.DWELL))
 
 @dataclass(frozen=True)
 class Mode:
-    """A kind of mode, with the number of its pattern or preempt; 0 where it has none."""
+    """A kind of mode, with the number of its pattern or preempt; 0 if it has none."""
 
     kind: Kind
     number: int = 0

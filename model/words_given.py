@@ -68,14 +68,14 @@ ALONE: dict[str, Command] = {"run": Run(), "check": Check(), "live": Live(), "re
 
 
 def number(word: str, low: int, high: int) -> int | None:
-    """Returns the number of a word in a range, None where it is none."""
+    """Returns the number of a word in a range, None if it is none."""
     if not re.fullmatch(r"0|[1-9][0-9]{0,9}", word) or not low <= int(word) <= high:
         return None
     return int(word)
 
 
 def pairs(words: list[str], names: list[str]) -> list[str] | None:
-    """Returns the words behind some names, None where the words aren't these names each with a word."""
+    """Returns the words behind some names, None if the words aren't these names each with a word."""
     return words[1::2] if len(words) == 2 * len(names) and words[::2] == names else None
 
 
@@ -102,7 +102,7 @@ def overlaps(words: list[str]) -> Command | None:
 
 
 def command_of(words: list[str]) -> Command | None:
-    """Returns the command that the words are; None where they are none."""
+    """Returns the command that the words are; None if they are none."""
     if not words:
         return None
     first, rest = words[0], words[1:]

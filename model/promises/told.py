@@ -199,7 +199,7 @@ def streets_of(text: bytes) -> tuple[Scenario, list[Street]]:
 @dataclass(frozen=True)
 class Interval:
     """A longest run of ticks with one colour or signal of a phase; `end` is the frame at which another is shown,
-    None where it still runs as the trace ends, and `after` what is shown then."""
+    None if it still runs as the trace ends, and `after` what is shown then."""
 
     phase: int
     shows: str

@@ -192,7 +192,7 @@ def check_conflicts(street: Map, signal: MappedSignal, network: Network, tables:
 
 
 def who_yields(network: Network, one: Side, other: Side) -> tuple[str, str]:
-    """Returns the name of the movement that SUMO lets give way, and to which; none where SUMO lets neither."""
+    """Returns the name of the movement that SUMO lets give way, and to which; none if SUMO lets neither."""
     for a, b in ((one, other), (other, one)):
         if network.gives_way(a.link, b.link) and not a.movement.walk:
             return a.movement.name, b.movement.name

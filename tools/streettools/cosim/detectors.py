@@ -100,7 +100,7 @@ class Detectors:
         self.position = call(sumo, "vehicle", "getLanePosition")
         self.on: set[int] = set()
         self.over: list[int] | None = []
-        """The loops that somebody was over at the last look; None where one had been left just before."""
+        """The loops that somebody was over at the last look; None if one had been left just before."""
         self.strays: dict[int, list[Stray]] = {}
         """By row, the vehicles that have stopped on a loop that doesn't see them."""
 

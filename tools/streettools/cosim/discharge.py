@@ -113,7 +113,7 @@ def queued(passed: list[tuple[float, bool]], start: float, end: float) -> list[f
 
 
 def lane_flow(it: Approach, history: History, passed: Passages) -> LaneFlow | None:
-    """Returns saturation flow and lost time of a lane, None where no green began with a queue."""
+    """Returns saturation flow and lost time of a lane, None if no green began with a queue."""
     greens = vehicles = 0
     beyond = fourth = 0.0
     for start, end in greens_of(history[it.signal], it.places):
@@ -134,7 +134,7 @@ def lane_flows(lanes: list[Approach], history: History, passed: Passages) -> lis
 
 
 def difference(flows: list[LaneFlow], saturation: float, lost: float) -> str:
-    """Returns in a line how a run's lanes differ from what is assumed elsewhere, empty where they don't."""
+    """Returns in a line how a run's lanes differ from what is assumed elsewhere, empty if they don't."""
     if not flows:
         return "no green began with eight vehicles that stood, so saturation flow and lost time weren't measured"
     rates, times = sorted(it.saturation for it in flows), sorted(it.lost for it in flows)

@@ -39,7 +39,7 @@ class Count:
     arrivals: int = 0
     """How many would have passed the line in the time that counts, had nothing held them."""
     capacity: float | None = None
-    """How many the greens could have discharged; None where that isn't known."""
+    """How many the greens could have discharged; None if that isn't known."""
     full_time: float | None = None
     """How long its storage was full; None if there isn't a limit."""
 

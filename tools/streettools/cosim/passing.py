@@ -36,7 +36,7 @@ class Served(NamedTuple):
 
 class Way(NamedTuple):
     """A turn of a vehicle: what serves it, the edges on the way there, when it began that way and when it passed the
-    stop line (None where it didn't), and the parts of the way: edges, and the junctions before them."""
+    stop line (None if it didn't), and the parts of the way: edges, and the junctions before them."""
 
     served: Served
     edges: tuple[str, ...]
@@ -90,7 +90,7 @@ class Routes:
 
 
 def exits_of(text: str | None, count: int, begin: float) -> list[float | None]:
-    """Returns when each edge was left, None where it wasn't."""
+    """Returns when each edge was left, None if it wasn't."""
     seconds = [float(it) for it in (text or "").split()]
     found = [it - begin if it >= 0 else None for it in seconds[:count]]
     return found + [None] * (count - len(found))
@@ -151,7 +151,7 @@ class Traffic:
         return way.entered + free + sum(self.stops.get((vehicle, it), 0.0) for it in way.edges)
 
     def waits(self, vehicle: str, factor: float, most: float, end: float) -> tuple[int, str, float] | None:
-        """Returns the stop line at which a vehicle waited when the run ended, None where it didn't."""
+        """Returns the stop line at which a vehicle waited when the run ended, None if it didn't."""
         ways = self.ways.get(vehicle, ())
         if not ways or ways[-1].passed is not None:
             return None
@@ -238,7 +238,7 @@ def starts_of(path: pathlib.Path) -> dict[str, Begun]:
 
 
 def walks_of(path: pathlib.Path, begin: float) -> dict[str, tuple[float, float | None]]:
-    """Returns when each person began its way, and when it ended, None where it was under way."""
+    """Returns when each person began its way, and when it ended, None if it was under way."""
     found: dict[str, tuple[float, float | None]] = {}
     for _, element in xml.iterparse(path):
         if element.tag == "personinfo":

@@ -54,7 +54,7 @@ class Preempts:
         return last is not None and driven < last + sumo.vehicle.getLength(vehicle)
 
     def before_line(self, sumo: Any, item: MappedPreempt, vehicle: str) -> float | None:
-        """Returns how many metres a vehicle has to the stop line of an input, None where it isn't near one."""
+        """Returns how many metres a vehicle has to the stop line of an input, None if it isn't near one."""
         for signal, index, metres, _ in sumo.vehicle.getNextTLS(vehicle):
             if metres > item.ahead:
                 return None

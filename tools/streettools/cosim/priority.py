@@ -79,7 +79,7 @@ class Priority:
             yield self.given(asking, bus, second)
 
     def ahead(self, sumo: Any, vehicle: str, bus: MappedBus) -> tuple[int, int, float] | None:
-        """Returns the cabinet and phase before which a bus asks, and in how many seconds it comes; None where it
+        """Returns the cabinet and phase before which a bus asks, and in how many seconds it comes; None if it
         needn't."""
         for signal, index, distance, _ in sumo.vehicle.getNextTLS(vehicle):
             if signal not in self.cabinets:
@@ -97,7 +97,7 @@ class Priority:
         return any(edge_of(stop.lane) == sumo.vehicle.getRoadID(vehicle) for stop in sumo.vehicle.getStops(vehicle, 1))
 
     def free(self, cabinet: int) -> int | None:
-        """Returns a number that no live request of a cabinet has, None where all are taken."""
+        """Returns a number that no live request of a cabinet has, None if all are taken."""
         used = {it.number for it in self.live.values() if it.cabinet == cabinet}
         return next((it for it in NUMBERS if it not in used), None)
 

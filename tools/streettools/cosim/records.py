@@ -65,7 +65,7 @@ class Trip(NamedTuple):
     """A whole way of a vehicle or a person. `route` is the name of the flow, the line or the route; `depart` is when
     it wanted to start, `arrive` when it was there, None if it was still under way at the end; `delay` is the time lost
     against driving freely, with the wait to get in; `stops` is how often it stood. `waits` is the stop line at which it
-    waited when the run ended: the cabinet, the movement, and when it would have passed there; None where it didn't."""
+    waited when the run ended: the cabinet, the movement, and when it would have passed there; None if it didn't."""
 
     vehicle: str
     route: str

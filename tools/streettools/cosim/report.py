@@ -39,7 +39,7 @@ def level(delay: float) -> str:
 
 
 def share(part: float, whole: float, places: int = 3) -> float | None:
-    """Returns a quotient, None where there is nothing to divide by."""
+    """Returns a quotient, None if there is nothing to divide by."""
     return round(part / whole, places) if whole else None
 
 

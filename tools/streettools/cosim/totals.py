@@ -54,7 +54,7 @@ def mean_of(values: list[float]) -> Mean:
 
 
 def total_of(trips: Iterable[Trip]) -> Total | None:
-    """Returns what some trips come to, None where there are none."""
+    """Returns what some trips come to, None if there are none."""
     rows = [(it.delay, it.stops) for it in trips]
     if not rows:
         return None

@@ -108,7 +108,7 @@ def followed(said: IO[bytes], log: BinaryIO, proof_progress: ProofProgress) -> s
 
 
 def prove_all(rt: str, top: pathlib.Path, log: BinaryIO, proof_progress: ProofProgress, before: dict[str, str]) -> None:
-    """Proves sources with these checksums, and builds the program; NotProved where a crate fails. However it ends, the
+    """Proves sources with these checksums, and builds the program; NotProved if a crate fails. However it ends, the
     copy is gone."""
     out = top / "crates" / crates.PROGRAM / "out"
     copy = out / "lanes"

@@ -36,7 +36,7 @@ class Untold(Exception):
 
 def by_program(program: str, scenario: bytes, before: bytes) -> bytes | None:
     """Returns the line that a run of the program writes behind a beginning of a trace, with its newline; the empty
-    line where nothing follows, None where the run writes another beginning."""
+    line where nothing follows, None if the run writes another beginning."""
     with tempfile.TemporaryFile() as given:
         given.write(scenario)
         given.seek(0)

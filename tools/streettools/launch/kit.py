@@ -5,7 +5,7 @@ import shutil
 
 
 def command() -> str | None:
-    """Returns the path of the command rt, None where there is none."""
+    """Returns the path of the command rt, None if there is none."""
     return shutil.which("rt")
 
 
@@ -25,6 +25,6 @@ def scripts() -> list[pathlib.Path]:
 
 
 def identity(folder: pathlib.Path) -> str:
-    """Returns the kit's own account of what it was made of, with checksums; nothing where it has none."""
+    """Returns the kit's own account of what it was made of, with checksums; nothing if it has none."""
     what = folder / "WHAT"
     return what.read_text() if what.is_file() else ""

@@ -102,7 +102,7 @@ def with_jobs(memory: float, jobs: int) -> float:
 
 
 def jobs_for(machine: Machine, running: list[Running], waiting: int, memory: float) -> int:
-    """Returns how many jobs the next of the crates that wait gets, 0 where it has to wait. The first runs however
+    """Returns how many jobs the next of the crates that wait gets, 0 if it has to wait. The first runs however
     little memory there is."""
     room = machine.memory - sum(it.memory for it in running)
     if len(running) >= machine.processors or (running and memory > room):

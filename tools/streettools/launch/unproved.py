@@ -132,7 +132,7 @@ def written(output: bytes, status: int) -> int:
 
 
 def known(arguments: list[str]) -> int | None:
-    """Gives an answer that can be read from the source, and returns its status; None where a run is needed."""
+    """Gives an answer that can be read from the source, and returns its status; None if a run is needed."""
     if arguments == ["--version"] and (text := source.version(crates.TOP)):
         say("arterial", help.FROM_SOURCE)
         sys.stdout.write(text)

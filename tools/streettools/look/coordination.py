@@ -192,7 +192,7 @@ def draw_planned(axes, found, delays, heights, corner):
 
 
 def left_out(corners):
-    """Returns the words that tell which partner phases are left out, empty where none is."""
+    """Returns the words that tell which partner phases are left out, empty if none is."""
     told = [(it.cabinet.number, it.names.left_out(it.cabinet.number)) for it in corners if not it.fixed]
     return "; ".join(f"cabinet {number} {words}" for number, words in told if words)
 

@@ -22,7 +22,7 @@ class Beat(NamedTuple):
 
 
 def read(path):
-    """Returns the bands that a file holds, outbound and inbound, each None where there is none."""
+    """Returns the bands that a file holds, outbound and inbound, each None if there is none."""
     with open(path, encoding="ascii", errors="replace") as file:
         found = read_bands(file.read(1000))
     if found is None:

@@ -35,7 +35,7 @@ class Service:
         self.pressed = None
 
     def walk_wait(self):
-        """Returns how long pedestrians waited; nothing where none has pressed a button."""
+        """Returns how long pedestrians waited; nothing if none has pressed a button."""
         if not self.waits and self.pressed is None:
             return {}
         mean = round(sum(self.waits) / len(self.waits) / 10, 2) if self.waits else None

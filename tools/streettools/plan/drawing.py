@@ -137,7 +137,7 @@ def put_times(tables: Tables, phase: int, like: int) -> None:
 
 
 def of_tables(tables: Tables) -> Drawing | None:
-    """Returns the drawing of tables; None where rings, lists and sequence 1 don't make one."""
+    """Returns the drawing of tables; None if rings, lists and sequence 1 don't make one."""
     enabled = set(tables.enabled())
     rings = [value(tables, ("sequence", 1, ring)) for ring in (1, 2)]
     if not enabled or sorted((*rings[0], *rings[1])) != sorted(enabled):

@@ -139,7 +139,7 @@ class Layout:
 
     @cached_property
     def window(self) -> int:
-        """How long after local zero both coordinated phases may stay green; below 0 where they can't be green
+        """How long after local zero both coordinated phases may stay green; below 0 if they can't be green
         together."""
         return min(self.last_end(phase) for phase in self.coordinated) - self.zero
 

@@ -68,7 +68,7 @@ class Agent:
         raise self.refusal(f"no answer in {TRIES} attempts{more}; check the port and the community")
 
     def answer(self, deadline: float) -> Reply:
-        """Returns the answer to the question that was asked last; TimeoutError where it doesn't come in time."""
+        """Returns the answer to the question that was asked last; TimeoutError if it doesn't come in time."""
         while True:
             self.socket.settimeout(max(0.001, deadline - time.monotonic()))
             octets = self.socket.recv(65_536)

@@ -37,7 +37,7 @@ def groups(cells: list[Cell]) -> list[list[Cell]]:
 
 def packed(old: Tables, new: Tables, cells: list[Cell], may: set[int]) -> list[list[Cell]] | None:
     """Returns cells as downloads, each of which keeps the rules (or breaks those that it may), of whole groups; None
-    where that can't be."""
+    if that can't be."""
     found: list[list[Cell]] = []
     waiting, now = groups(cells), old
     while waiting:

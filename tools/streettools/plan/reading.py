@@ -63,7 +63,7 @@ def read_run(it: Given, drifts: bool) -> dict[str, Any]:
 
 
 def read_master(it: Given, schedule: list[dict] | None) -> dict[str, Any] | None:
-    """Returns the master, None where the sheet says nothing of it."""
+    """Returns the master, None if the sheet says nothing of it."""
     it.allow(("clock", *EVERY, "retries"))
     found: dict[str, Any] = {}
     clock = it.read("clock", readers.day_ticks)

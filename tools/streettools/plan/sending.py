@@ -81,7 +81,7 @@ class Device:
         return Wrong(f"{self.load}: {words}")
 
     def value_at(self, name: Name) -> Value | None:
-        """Returns the value of an object; None where the device doesn't have it."""
+        """Returns the value of an object; None if the device doesn't have it."""
         reply = self.agent.ask(GET, [(name, None)])
         if reply.status == NO_SUCH_NAME:
             return None
@@ -110,7 +110,7 @@ class Device:
         return found
 
     def name(self) -> str:
-        """Returns what the device is called; empty where it has no name."""
+        """Returns what the device is called; empty if it has no name."""
         found = self.value_at(SYS_NAME)
         return " ".join(found.decode("utf-8", "replace").split()) if isinstance(found, bytes) else ""
 

@@ -71,7 +71,7 @@ class Utdf:
         }
 
     def setting(self, name: str) -> Entry:
-        """Returns a setting of the network; blank where there is none."""
+        """Returns a setting of the network; blank if there is none."""
         found = (
             it.get("DATA", BLANK)
             for it in self.records("network")
@@ -80,7 +80,7 @@ class Utdf:
         return next(found, BLANK)
 
     def number(self, entry: Entry | None) -> float | None:
-        """Returns the number that a field has, None where it is blank. One that can't be read is kept as a fault."""
+        """Returns the number that a field has, None if it is blank. One that can't be read is kept as a fault."""
         if not entry:
             return None
         if NUMBER.fullmatch(entry) and math.isfinite(float(entry)):
@@ -90,7 +90,7 @@ class Utdf:
         return None
 
     def whole(self, entry: Entry | None) -> int | None:
-        """Returns the whole number that a field has, None where it is blank."""
+        """Returns the whole number that a field has, None if it is blank."""
         found = self.number(entry)
         if found is not None and entry and not found.is_integer():
             self.fault(entry, f"{str(entry)[:40]!r} is not a whole number")
@@ -122,7 +122,7 @@ def rows_of(text: str, file: str) -> Iterator[tuple[int, list[str]]]:
 
 
 def section_of(first: str, row: list[str]) -> str | None:
-    """Returns the section that a line begins, None where it begins none."""
+    """Returns the section that a line begins, None if it begins none."""
     title = first.strip("[]").lower()
     if first.startswith("[") and first.endswith("]"):
         return title

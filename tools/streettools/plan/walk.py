@@ -105,7 +105,7 @@ def read(text: str) -> dict[Name, int | bytes]:
 
 
 def cell_of(name: Name) -> tuple | None:
-    """Returns the cell that an object is, None where it is none."""
+    """Returns the cell that an object is, None if it is none."""
     if name in UNIT:
         return "unit", UNIT[name]
     rest = name[BELOW_ASC:]

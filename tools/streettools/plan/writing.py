@@ -13,7 +13,7 @@ from .started import Read
 
 
 def read_back(sheet: dict[str, Any]) -> Read | None:
-    """Returns what an intersection of a sheet comes to, None where it has faults."""
+    """Returns what an intersection of a sheet comes to, None if it has faults."""
     it = Given(sheet, faults=[])
     found, _ = intersection.read(it)
     return None if it.faults else found
@@ -146,7 +146,7 @@ def say_sequences(sheet: dict[str, Any], usual: Tables, tables: Tables) -> None:
 
 
 def said(base: str, tables: Tables, known: names.Intersection, drawn: drawing.Drawing | None) -> dict[str, Any] | None:
-    """Returns an intersection as a sheet has it with this drawing, None where that doesn't come back as the same
+    """Returns an intersection as a sheet has it with this drawing, None if that doesn't come back as the same
     tables."""
     sheet: dict[str, Any] = {} if base == "std8" else {"standard": base}
     if drawn is not None and drawn != drawing.STANDARD:

@@ -53,7 +53,7 @@ def changed(pair: tuple[str, str]) -> Changes:
 
 class Cycle(NamedTuple):
     """A cycle of a pattern begins: `pickup` says whether the pattern was taken up, `error` by how many ticks it begins
-    late (above 0) or early (below 0) by the cabinet's clock; None where the pattern's cycle isn't told. `elapsed`
+    late (above 0) or early (below 0) by the cabinet's clock; None if the pattern's cycle isn't told. `elapsed`
     counts the ticks since the local zero before, and is None at a pickup."""
 
     tick: int
@@ -134,7 +134,7 @@ class Cabinet:
         self.frame = frame
 
     def cycle(self, frame: Frame) -> Cycle | None:
-        """Returns the cycle that begins with this frame, which isn't taken over yet; None where none does."""
+        """Returns the cycle that begins with this frame, which isn't taken over yet; None if none does."""
         mode, before = mode_of(frame.mode), self.frame
         if mode.letter != "C" or frame.counter != 0 or before is None:
             return None
@@ -169,7 +169,7 @@ class Cabinet:
 
     def needed(self, cycle: Cycle) -> int | None:
         """Returns in how many cycles at most an undisturbed cabinet comes onto its offset, from a cycle that begins;
-        None where the pattern's cycle isn't told."""
+        None if the pattern's cycle isn't told."""
         known = self.plan(cycle.pattern)
         if known is None:
             return None

@@ -104,7 +104,7 @@ def asked_for(given: argparse.Namespace, program: pathlib.Path) -> tuple[dict[st
 
 
 def names_of(scenario: str) -> "Names | None":
-    """Returns the names of a sheet, or of the file with names beside a scenario, None where there are none."""
+    """Returns the names of a sheet, or of the file with names beside a scenario, None if there are none."""
     from ..plan import streets  # takes a while
 
     return streets.text_of(scenario).names
@@ -243,7 +243,7 @@ async def served(asked: Asked) -> None:
 
 
 def checked(given: argparse.Namespace) -> str | None:
-    """Returns what is wrong with the words together, None where nothing is."""
+    """Returns what is wrong with the words together, None if nothing is."""
     if given.addresses and given.bind:
         return "--addresses are those of loopback; --bind names one address"
     if given.ticks_per_message is not None and not words.is_step(given):

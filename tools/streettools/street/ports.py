@@ -22,7 +22,7 @@ ROOM = 1 << 20
 
 Manager = tuple[str, int]
 Asked = Callable[[int, bytes, Manager], Awaitable[bytes | None]]
-"""Returns the reply of a cabinet to a datagram from an address and a port, None where it is silent."""
+"""Returns the reply of a cabinet to a datagram from an address and a port, None if it is silent."""
 
 
 def bracketed(address: str) -> str:

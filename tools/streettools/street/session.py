@@ -28,7 +28,7 @@ def frame(cabinet: int, octets: bytes, stream: str = "priority") -> bytes:
 
 
 def reply_in(lines: Answer) -> bytes | None:
-    """Returns the reply in the answer to such a request, None where the cabinet is silent."""
+    """Returns the reply in the answer to such a request, None if the cabinet is silent."""
     digits = lines[-1].rsplit(b" ", 1)[1]
     return None if lines[-1][:1] == b"?" or digits == b"-" else bytes.fromhex(digits.decode())
 

@@ -122,7 +122,7 @@ class Runner:
             raise Fault(f"no scenario can be made of this variant: {type(fault).__name__}: {fault}") from None
 
     def trace(self, given: BinaryIO, trace: BinaryIO) -> str | None:
-        """Writes the trace of a scenario; returns the line with which the program refuses it, None where it doesn't."""
+        """Writes the trace of a scenario; returns the line with which the program refuses it, None if it doesn't."""
         answer = self.ran("run", given, trace)
         if answer.status == Status.REFUSED:
             return answer.said

@@ -56,7 +56,7 @@ class Terms:
 
 
 def run(program: Path, scenario: dict[str, Any], queued: Queued, terms: Terms) -> queue_study.Ran:
-    """Runs a variant; TimeoutError where it isn't done in time."""
+    """Runs a variant; TimeoutError if it isn't done in time."""
     seconds, step = queue_study.seconds_of(scenario, None), scenario["ticks"]
     if step not in STEPS:
         raise Fault(f"volumes go with rounds of {', '.join(map(str, STEPS))} ticks, and the scenario has {step}")

@@ -19,7 +19,7 @@ class Detector:
         return self.place > 0 and self.ons[self.place - 1] == 1
 
     def active(self) -> int:
-        """Returns the last tick at which a vehicle was near, by the inputs that were taken; 0 where none was."""
+        """Returns the last tick at which a vehicle was near, by the inputs that were taken; 0 if none was."""
         at = self.place - 1
         while at > 0 and not self.ons[at] and not self.ons[at - 1]:
             at -= 1

@@ -129,7 +129,7 @@ class Watch:
         return next((call for first, call in reversed(self.calls) if first <= number), None)
 
     def word(self, number: int | None) -> str:
-        """Returns how a green came or ended at a tick; nothing where that tick wasn't looked at."""
+        """Returns how a green came or ended at a tick; nothing if that tick wasn't looked at."""
         return next((it.reason.word for it in self.spells if number is not None and it.first <= number < it.until), "")
 
     def story(self, cabinet: int) -> Story:

@@ -22,7 +22,7 @@ class Turn(NamedTuple):
 
 
 class View(NamedTuple):
-    """What is looked at: the first and the last second, the time of day at which the run began, None where the time
+    """What is looked at: the first and the last second, the time of day at which the run began, None if the time
     since then is shown, and what things are called."""
 
     start: float

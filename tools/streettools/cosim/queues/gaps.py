@@ -52,7 +52,7 @@ class Gaps(NamedTuple):
 
 
 class YieldLine:
-    """A stop line while its movement gives way. `open_from` and `open_until` are the span in which it may; None where
+    """A stop line while its movement gives way. `open_from` and `open_until` are the span in which it may; None if
     it has no such span."""
 
     def __init__(self, line: StopLine, foes: list[Foe], gaps: Gaps) -> None:

@@ -49,7 +49,7 @@ class Detectors:
 
 @dataclass(frozen=True)
 class Onward:
-    """Where vehicles go on: the cabinet and the approach there, how long they drive at the wanted speed (0 where the
+    """Where vehicles go on: the cabinet and the approach there, how long they drive at the wanted speed (0 if the
     file doesn't say it, and a sheet has to), which share of the movement goes there (the others leave the street), and
     the dispersion of platoons."""
 
@@ -118,7 +118,7 @@ class Volumes:
 
 
 def time_of(text: Any) -> float | None:
-    """Returns a time of day that is written as 7:30, in seconds; None where it isn't one."""
+    """Returns a time of day that is written as 7:30, in seconds; None if it isn't one."""
     return float(DAY_SECONDS) if text == "24:00" else of_day(text) if isinstance(text, str) else None
 
 

@@ -132,7 +132,7 @@ async def sync_status(front: Front) -> Field:
 
 
 async def cycle_status(front: Front) -> Field:
-    """Returns the whole seconds that are left of the cycle, 0 where no pattern runs."""
+    """Returns the whole seconds that are left of the cycle, 0 if no pattern runs."""
     pattern, counter = await front.side.numbers(STATUS, COUNTER_OF_CYCLE)
     if pattern not in PATTERNS:
         return whole(0)

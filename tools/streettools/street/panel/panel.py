@@ -187,7 +187,7 @@ class Panel(Hearer):
         return {"cabinet": cabinet} | (dict(zip(DETAILS, numbers_of(reply))) if reply else {})
 
     async def got(self, cabinet: int, names: list[in_force.Name]) -> bytes | None:
-        """Returns a cabinet's reply to a Get of the panel's own; None where it is silent."""
+        """Returns a cabinet's reply to a Get of the panel's own; None if it is silent."""
         octets = message(GET, 1, [(name, None) for name in names], self.street.community())
         return await self.street.message(cabinet, octets)
 
