@@ -52,7 +52,7 @@ class Street:
 
 
 def street_of(says: dict[str, Any]) -> Street:
-    """Returns the street that is asked of; what stands against any band is raised."""
+    """Returns the street of a question; raises the fault if it can't have a band."""
     scenario: Scenario = says["scenario"]
     number = says["pattern"]
     members = [(n, it.tables) for n, it in enumerate(scenario.cabinets, 1) if it.section == says["section"]]

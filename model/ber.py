@@ -14,7 +14,7 @@ MOST_ARCS = 32
 
 
 class Unreadable(Exception):
-    """The octets are not what is to be read."""
+    """The octets aren't the expected field."""
 
 
 def demand(holds: bool) -> None:
@@ -84,7 +84,7 @@ def number_field(number: int) -> bytes:
 
 
 def arc_octets(arc: int) -> bytes:
-    """Returns the octets of an arc behind the first two: seven bits each, all but the last with the high bit."""
+    """Returns the octets of an arc after the first two: seven bits each, all but the last with the high bit."""
     octets = [arc & 0x7F]
     while arc := arc >> 7:
         octets.append(arc & 0x7F | 0x80)

@@ -1,8 +1,8 @@
 """The counter of a pattern's cycle, and how it is corrected.
 
-docs/DEFINITIONS.md, "A tick: coordination": `next_counter`; docs/SCENARIO.md, the units 1 to 4. What is kept of the
-counters since the last local zero or pickup are how many steps stood, how many skipped, and whether the last one
-changed the counter.
+docs/DEFINITIONS.md, "A tick: coordination": `next_counter`; docs/SCENARIO.md, the units 1 to 4. Of the steps since the
+last local zero or pickup are kept: how many held the counter, how many skipped, and whether the last one changed the
+counter.
 """
 
 from dataclasses import dataclass

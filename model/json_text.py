@@ -40,7 +40,7 @@ def no_constant(_word: str) -> None:
 
 
 def is_too_deep(text: str) -> bool:
-    """Tells whether lists and objects stand deeper in each other than they may."""
+    """Tells whether lists and objects are nested too deep."""
     depth, is_text, is_escaped = 0, False, False
     for letter in text:
         if is_text:

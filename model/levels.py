@@ -36,7 +36,7 @@ class Rule:
 
 
 def level_after(rule: Rule, level: int, volume: int) -> int:
-    """Returns the level behind a period with a volume."""
+    """Returns the level after a period with a volume."""
     reached = [it for it, step in enumerate(rule.steps, 1) if it > level and step.up <= volume]
     if reached:
         return max(reached)

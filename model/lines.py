@@ -95,7 +95,7 @@ def runs_of(line: bytes) -> list[tuple[int, int]]:
 
 
 def are_longest(runs: list[tuple[int, int]]) -> bool:
-    """Tells whether runs are those of a J line: none is empty, and no two of one pass stand side by side."""
+    """Tells whether runs are those of a J line: none is empty, and no two neighbours are of one pass."""
     if any(count == 0 or count >= 1 << 32 or stream >= 1 << 32 for stream, count in runs):
         return False
     return all(one[0] != two[0] for one, two in zip(runs, runs[1:]))

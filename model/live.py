@@ -53,5 +53,5 @@ def live(read: Callable[[], bytes]) -> Iterator[bytes]:
 
 
 def text_of(answer: Iterator[bytes]) -> bytes:
-    """Returns the text of an answer, with the dot behind it."""
+    """Returns the text of an answer, with the dot after it."""
     return b"".join(line + b"\n" for line in answer) + b".\n"

@@ -1,4 +1,4 @@
-"""The pattern in command, the clock, and where a pattern's counter is to stand by it.
+"""The pattern in command, the clock, and the target of a pattern's counter, which follows from it.
 
 docs/DEFINITIONS.md, "A tick: command, clock and mode": `command_now`, `is_backed_up`, `clock_now`, `rise_at`,
 `target_at`; docs/SCENARIO.md, `gain` and `lose`.
@@ -46,7 +46,7 @@ def clock_now(past: Past, drift: Drift) -> int:
 
 
 def target(past: Past, mode: Mode, clock: int) -> int:
-    """Returns where the counter is to stand: the time since the pattern's offset, round the cycle."""
+    """Returns the target of the counter: the time since the pattern's offset, modulo the cycle."""
     if mode.kind not in (Kind.SEEK, Kind.COORD):
         return 0
     laid = plan(past.tables, mode.number)

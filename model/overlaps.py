@@ -42,7 +42,7 @@ def has_lasted(shown: list[Colour], ticks: int) -> bool:
 
 
 def shown_after(shown: list[Colour], green: list[bool], told: Overlaps) -> Colour:
-    """Returns what the overlap shows at the tick behind those that are shown; `green` tells of each tick, this one
+    """Returns what the overlap shows at the tick after those that are shown; `green` tells of each tick, this one
     included, whether a parent was Green."""
     before = shown[-1]
     if before is Colour.RED:

@@ -28,7 +28,7 @@ class Moment:
     """The number of the last tick before the pattern in command was received."""
     calls: Calls = Calls()
     places: Places = field(default_factory=dict)
-    """By number, the last priority request of each, and what has become of it."""
+    """By number, the last priority request of each, and its state."""
     colour_began: dict[int, int] = field(default_factory=lambda: dict.fromkeys(PHASES, 0))
     """For each phase the number of the moment at which it began to show its colour."""
     signal_began: dict[int, int] = field(default_factory=lambda: dict.fromkeys(PHASES, 0))

@@ -189,7 +189,7 @@ class Rings:
         return next(filter(self.can_begin, self.earlier(ring)), None)
 
     def joins(self, p: int) -> bool:
-        """Tells whether a phase may turn Green beside another without demand, by dual entry."""
+        """Tells whether a phase may turn Green along with another without demand, by dual entry."""
         may = p in with_option(self.tables, DUAL_ENTRY) and p in servable(self.tables, self.bound)
         return may and is_startable(self.past, p) and self.fits(p, 0)
 

@@ -181,7 +181,8 @@ def first_own(tables: Tables, rules: range) -> Broken | None:
 
 
 def first_broken(tables: Tables, in_force: Tables, is_flashing: bool) -> Broken | None:
-    """Returns the first rule that tables break beside those in force, and its least row; None if they break none."""
+    """Returns the first rule that tables break, together with those in force, and its lowest row; None if they break
+    none."""
     if broken := first_own(tables, range(1, 21)):
         return broken
     if not is_flashing and tables is not in_force:

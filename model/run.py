@@ -105,7 +105,7 @@ class Run:
         self.arrived[cabinet.number - 1] = self.link.up(number, cabinet.number, replies)
 
     def round(self, number: int) -> Due:
-        """Gives the lines of a round: the master's notes, then cabinet by cabinet what comes to it."""
+        """Gives the lines of a round: the master's notes, then, cabinet by cabinet, those of what it receives."""
         yield b"R %d" % number
         notes, sent = self.master_turns(number)
         yield from notes

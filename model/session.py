@@ -1,7 +1,7 @@
 """A session: the cabinets of a scenario, driven request by request.
 
 docs/LIVE.md. A round begins with what master, line and scenario bring, all of it before any tick; what the session
-brings comes behind that, when it is asked for.
+brings comes after that, when it is requested.
 """
 
 from collections.abc import Iterator

@@ -1,8 +1,8 @@
 """What is allowed at a place of a JSON value, and the first fault of what is there.
 
-docs/SCENARIO.md, "What is refused, and how". A shape takes a value and its path, and returns what the value says; a
-fault is raised. Of one value the kind comes before the range; of a list its length before its items; of an object
-unknown names before the names in their order.
+docs/SCENARIO.md, "What is refused, and how". A shape takes a value and its path, and returns what the value says; it
+raises the first fault. A value's kind is checked before its range, a list's length before its items, and an object's
+unknown names before its names in their order.
 """
 
 import re
@@ -18,7 +18,7 @@ NEEDED = object()
 
 
 class Refused(Exception):
-    """The first fault of an input, as the line tells it behind `scenario: `."""
+    """The first fault of an input, as it is printed after `scenario: `."""
 
 
 def field_fault(path: str) -> Refused:

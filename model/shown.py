@@ -18,7 +18,7 @@ NOTHING_PLANNED, FLASHING = 254, 255
 
 @dataclass(frozen=True)
 class Shown:
-    """A cabinet's controller and its stage, as they stand when a message is answered."""
+    """A cabinet's controller and its stage, at the time at which a message is answered."""
 
     controller: Controller
     stage: Stage

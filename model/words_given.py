@@ -75,7 +75,7 @@ def number(word: str, low: int, high: int) -> int | None:
 
 
 def pairs(words: list[str], names: list[str]) -> list[str] | None:
-    """Returns the words behind some names, None if the words aren't these names each with a word."""
+    """Returns the words after some names, None if the words aren't these names each with a word."""
     return words[1::2] if len(words) == 2 * len(names) and words[::2] == names else None
 
 

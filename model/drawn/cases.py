@@ -102,7 +102,7 @@ def check_case(draw: Random) -> Case:
 
 
 def live_case(draw: Random) -> Case:
-    """Draws a session, at times with damage behind its first line."""
+    """Draws a session, sometimes with damage after its first line."""
     first, rest = session(draw).split(b"\n", 1)
     return Case(["live"], first + b"\n" + (damaged(draw, rest) if rest and draw.random() < 0.1 else rest))
 
@@ -120,7 +120,7 @@ def respond_case(draw: Random) -> Case:
 
 
 def band_case(draw: Random) -> Case:
-    """Draws what is asked of through bands, at times with hostile values or damage."""
+    """Draws a question about progression bands, sometimes with hostile values or damage."""
     return Case(["band"], perhaps_damaged(draw, reports.street(draw)))
 
 

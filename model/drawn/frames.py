@@ -73,7 +73,7 @@ def any_value(draw: Random) -> Value:
 
 
 def name_near(draw: Random) -> Oid:
-    """Draws a name that can be read, one beside it, or an odd one."""
+    """Draws a readable name, one next to it, or an odd one."""
     oid = draw.choice(READABLE)
     changes = [
         oid,
@@ -137,7 +137,7 @@ def frame(draw: Random, drawn: Drawn, community: bytes, load: int) -> bytes:
 
 
 def damaged(draw: Random, octets: bytes) -> bytes:
-    """Returns octets with one changed, cut, or with some behind them."""
+    """Returns octets with one changed, cut, or with some after them."""
     at = draw.randrange(len(octets))
     return draw.choice(
         [

@@ -43,7 +43,7 @@ ODD_LINES = [
 
 
 def ordered(draw: Random, value: dict[str, Any]) -> dict[str, Any]:
-    """Returns a scenario whose downloads and priority requests mostly stand by rounds."""
+    """Returns a scenario whose downloads and priority requests are mostly in the order of rounds."""
     lists = {name: sorted(value[name], key=lambda it: it["round"]) for name in ("loads", "priority") if name in value}
     return value | lists if draw.random() < 0.95 else value
 

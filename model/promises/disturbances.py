@@ -19,7 +19,7 @@ BACKUP_TIME = 5
 
 @dataclass
 class Watch:
-    """What is known of a cabinet behind a tick: the clock, and the pattern in command since a tick."""
+    """What is known of a cabinet after a tick: the clock, and the pattern in command since a tick."""
 
     clock: int
     command: int

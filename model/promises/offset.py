@@ -58,7 +58,7 @@ def is_near(cycle: int, seen: Seen, is_drifting: bool) -> bool:
 
 
 def after(street: Street, disturbed: Tick, last: int) -> Iterator[str]:
-    """Tells what the ticks behind a disturbance, up to the last quiet one, show against this promise."""
+    """Yields what is wrong in the ticks after a disturbance, up to the last quiet one."""
     tables, number = street.tables(disturbed.shown), disturbed.command
     if not is_defined(tables, number):
         return

@@ -41,7 +41,7 @@ class Seen:
 
 @dataclass(frozen=True)
 class Order:
-    """A pattern that was commanded, or a clock that was set, behind a tick."""
+    """A pattern that was commanded, or a clock that was set, after a tick."""
 
     tick: int
     scalar: Scalar
@@ -50,8 +50,8 @@ class Order:
 
 @dataclass(frozen=True)
 class LoadEnd:
-    """An L line behind a tick: the tables in force before it, those of the download, whether the cabinet was in
-    flash; the version that it names, or the rule that it tells."""
+    """An L line after a tick: the tables in force before it, those of the download, whether the cabinet was in flash;
+    the version that it names, or the broken rule."""
 
     tick: int
     in_force: Tables
@@ -198,8 +198,8 @@ def streets_of(text: bytes) -> tuple[Scenario, list[Street]]:
 
 @dataclass(frozen=True)
 class Interval:
-    """A longest run of ticks with one colour or signal of a phase; `end` is the frame at which another is shown,
-    None if it still runs as the trace ends, and `after` what is shown then."""
+    """A longest run of ticks with one colour or signal of a phase; `end` is the frame that shows a different one, None
+    if it still runs as the trace ends, and `after` what that frame shows."""
 
     phase: int
     shows: str

@@ -1,5 +1,5 @@
-"""All of a download comes into force between two ticks, or nothing of it: the version on each frame is the number of
-downloads accepted before it, and a download is accepted exactly where its tables keep all rules beside those in
+"""A download comes into force as a whole between two ticks, or not at all: the version on each frame is the number of
+downloads accepted before it, and a download is accepted exactly if its tables keep all rules, together with those in
 force."""
 
 from collections.abc import Iterator

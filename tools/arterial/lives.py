@@ -430,7 +430,7 @@ class AsyncStreet:
 
     @property
     def street(self) -> Street:
-        """The session behind: its `shown`, `trace`, `time_s` and `left` can be read at any time."""
+        """The session of this environment: its `shown`, `trace`, `time_s` and `left` can be read at any time."""
         if self._street is None:
             raise Over("the session isn't open: use it within async with")
         return self._street

@@ -1,4 +1,4 @@
-"""The program behind this package: where it is, and whether it is the proved one."""
+"""The program that this package runs: where it is, and whether it is the proved one."""
 
 import functools
 import hashlib

@@ -137,7 +137,7 @@ class Sumo:
         return len(self.standing)
 
     def counted(self) -> Any:
-        """Returns how many vehicles stand, by cabinet and phase."""
+        """Returns how many vehicles have stopped, by cabinet and phase."""
         self.queues.fill(0.0)
         for lane, names in self.loop.halts.standing.items():
             if lane in self.places:

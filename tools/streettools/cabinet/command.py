@@ -64,7 +64,7 @@ class Sets(Hearer):
 
 @dataclass
 class Cabinet:
-    """A cabinet that answers: its street, its place, the whole scenario, and what came to it."""
+    """A cabinet that answers: its street, its place, the whole scenario, and the messages that it received."""
 
     words: argparse.Namespace
     scenario: dict[str, Any]

@@ -127,7 +127,7 @@ class Detectors:
         return told
 
     def seen_otherwise(self, on: set[int]) -> set[int]:
-        """Returns the rows, beside some that are on, that have a vehicle in an area or one that no loop sees."""
+        """Returns the rows that have a vehicle in an area, or one that no loop sees; rows in `on` are left out."""
         found = {row for row, areas in self.areas if row not in on and any(map(self.in_area, areas))}
         for row in [row for row in self.strays if row not in on and row not in found]:
             if self.has_stray(row):

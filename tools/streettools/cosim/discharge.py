@@ -73,8 +73,8 @@ Passages = dict[str, list[tuple[float, bool]]]
 
 
 def passages_of(traffic: Traffic, halts: Iterable[Halt], crossed: dict[tuple[str, str], str]) -> Passages:
-    """Returns who passed which lane's stop line: by the lane from which each was seen to leave its edge, otherwise by
-    the one on which it stood last there."""
+    """Returns which vehicles passed which lane's stop line: by the lane from which each was seen to leave its edge,
+    otherwise by the one on which it stopped last there."""
     stood = {(vehicle, it.edge): it.lane for it in halts for vehicle in it.vehicles}
     found: Passages = defaultdict(list)
     for vehicle, ways in traffic.ways.items():
@@ -103,7 +103,7 @@ def greens_of(history: list[tuple[float, str]], places: tuple[int, ...]) -> list
 
 
 def queued(passed: list[tuple[float, bool]], start: float, end: float) -> list[float]:
-    """Returns how long after the beginning of a green those passed who had stood, as long as one follows another."""
+    """Returns how long after the beginning of a green the stopped vehicles passed, as long as one follows another."""
     found: list[float] = []
     for at, has_stood in passed[bisect.bisect_left(passed, (start, False)) :]:
         if not has_stood or at > end + CLEARS or found and at - start - found[-1] > APART:

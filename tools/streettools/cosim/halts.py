@@ -7,7 +7,7 @@ from .drive import call
 from .network import CROSSING, Network, edge_of
 
 STANDING = 0.1
-"""SUMO's own bound: who is slower than this, in metres a second, stands."""
+"""SUMO's own bound: a vehicle that is slower than this, in metres a second, has stopped."""
 
 
 class Halt(NamedTuple):
@@ -67,7 +67,7 @@ class Halts:
         self.stops = call(sumo, "vehicle", "getStops")
 
     def look(self, second: float) -> None:
-        """Keeps who stands now."""
+        """Keeps the vehicles that have stopped now."""
         without_stop, standing, found = self.without_stop, {}, self.found
         for (lane, edge), count in zip(self.lanes, map(self.halting, self.names)):
             if count:

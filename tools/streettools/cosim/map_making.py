@@ -187,7 +187,7 @@ class Maker:
         return self.network.gives_way(a, b) and (first.name in row.yields or is_permissive)
 
     def ask_clash(self, signal: str, one: tuple[Row, Link, int], other: tuple[Row, Link, int]) -> None:
-        """Asks what is meant of two movements that cross and may be on at once."""
+        """Asks what the user wants for two movements that cross and may be on at once."""
         (row, a, p), (first, b, q) = one, other
         on = f"both have phase {p}" if p == q else f"their phases {p} and {q} may be on at once"
         yielding = next((it for it, x, y in ((row, a, b), (first, b, a)) if self.network.gives_way(x, y)), row)

@@ -80,7 +80,7 @@ class MappedSignal:
 @dataclass(frozen=True)
 class MappedBus:
     """Vehicles that ask for priority: classes or types of SUMO, the class and level of their requests, at how many
-    metres before the stop line they ask, for how many seconds behind their arrival they hold."""
+    metres before the stop line they ask, for how many seconds after their arrival they hold."""
 
     vehicles: tuple[str, ...]
     number_class: int

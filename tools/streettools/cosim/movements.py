@@ -52,8 +52,8 @@ class Count:
         self.delays.append(it.delay)
 
     def add(self, other: "Count") -> None:
-        """Puts another movement to this one: queues of several have no greatest in common, so the greatest of one
-        stands."""
+        """Adds another movement to this one. Queues of several movements have no common maximum, so the longest queue
+        of one is kept."""
         for name in SUMS:
             setattr(self, name, getattr(self, name) + getattr(other, name))
         self.delays += other.delays

@@ -239,7 +239,7 @@ def read_links(root: xml.Element, found: Network) -> None:
 
 
 def read_inner(root: xml.Element, found: Network) -> None:
-    """Reads the ways over junctions, which may be of two lanes, one behind the other."""
+    """Reads the ways over junctions, which may be of two lanes, one after the other."""
     parts = {of(it, "id"): Part(float(of(it, "length")), float(of(it, "speed"))) for it in root.iter("lane")}
     ways = [(it, it.attrib["via"]) for it in root.iter("connection") if it.get("via")]
     for it, via in ways:

@@ -20,7 +20,7 @@ class OverlapLight:
         self.parent_is_green = any(colours[phase - 1] == "G" for phase in self.overlap.parents)
 
     def at(self, tick: int) -> str:
-        """Goes on to a tick, and returns what is shown there."""
+        """Advances to a tick, and returns what is shown there."""
         while self.tick < tick:
             self.tick += 1
             if self.parent_is_green:

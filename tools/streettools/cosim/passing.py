@@ -21,7 +21,7 @@ KINDS = {"bus": Kind.BUS, "coach": Kind.BUS, "tram": Kind.BUS, "emergency": Kind
 RAIL = ("rail", "rail_urban", "rail_electric", "rail_fast")
 UNKNOWN_SPEED = 1000.0
 Stood = set[tuple[str, str]]
-"""Vehicles that stood, each with the edge."""
+"""Vehicles that stopped, each with the edge."""
 
 
 class Served(NamedTuple):

@@ -9,7 +9,7 @@ from .network import Network, edge_of
 from .signals import Signals
 
 STANDING = 0.1
-"""Who is slower than this, in metres a second, stands."""
+"""A person who is slower than this, in metres a second, stands."""
 
 
 class Waiting(NamedTuple):

@@ -62,10 +62,10 @@ class Passage(NamedTuple):
 
 
 class Trip(NamedTuple):
-    """A whole way of a vehicle or a person. `route` is the name of the flow, the line or the route; `depart` is when
+    """A whole trip of a vehicle or a person. `route` is the name of the flow, the line or the route; `depart` is when
     it wanted to start, `arrive` when it was there, None if it was still under way at the end; `delay` is the time lost
-    against driving freely, with the wait to get in; `stops` is how often it stood. `waits` is the stop line at which it
-    waited when the run ended: the cabinet, the movement, and when it would have passed there; None if it didn't."""
+    against driving freely, with the wait to get in; `stops` is how often it stopped. `waits` is the stop line at which
+    it waited when the run ended: the cabinet, the movement, and when it would have passed there; None if it didn't."""
 
     vehicle: str
     route: str
@@ -204,7 +204,7 @@ def read(document: dict[str, Any], folder: pathlib.Path) -> Study:
 
 
 def save(study: Study, path: pathlib.Path) -> None:
-    """Writes a study beside its trace."""
+    """Writes a study next to its trace."""
     path.write_text(json.dumps(written(study), separators=(",", ":")) + "\n", encoding="utf-8")
 
 

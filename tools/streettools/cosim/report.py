@@ -159,7 +159,7 @@ def cell(value: Any) -> str:
 
 
 def table(rows: Iterable[Value], heads: dict[str, str]) -> str:
-    """Returns rows as a table; texts stand left, numbers right."""
+    """Returns rows as a table; texts are aligned left, numbers right."""
     given = list(rows)
     cells = [list(heads.values())] + [[cell(row[name]) for name in heads] for row in given]
     widths = [max(len(row[place]) for row in cells) for place in range(len(heads))]

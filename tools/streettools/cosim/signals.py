@@ -15,7 +15,7 @@ YIELDING_COLOUR = {"G": "g", "Y": "y", "C": "r", "R": "r"}
 GREEN = "Gg"
 RED = "rR"
 YIELDING = "gy"
-"""Letters of who gives way; to the watch `Y` is the yellow behind a green with way."""
+"""Letters of links that give way; for the watch, `Y` is the yellow after a green with the right of way."""
 MayYield = Callable[[Link, Link], bool]
 """Tells whether a link may have a green that yields while another has the right of way."""
 
@@ -87,7 +87,7 @@ class Watch:
         self.states: list[str] = []
         """What all signals had in force at the last look."""
         self.judged: dict[str, str] = {}
-        """What each signal has in force, with `Y` for the yellow behind a green with way."""
+        """What each signal has in force, with `Y` for the yellow after a green with the right of way."""
         self.history: dict[str, list[tuple[float, str]]] = {name: [] for name in self.crossing}
 
     def look(self, second: float) -> None:
@@ -119,7 +119,7 @@ class Watch:
 
 
 def behind(before: str, state: str) -> str:
-    """Returns a state with `Y` for each yellow behind a green with way."""
+    """Returns a state with `Y` for each yellow after a green with the right of way."""
     return "".join("Y" if now == "y" and was in "GY" else now for was, now in zip(before, state))
 
 
@@ -148,7 +148,7 @@ class Signals:
         return changed
 
     def show(self, sumo: Any, lines: list[bytes], tick: int) -> None:
-        """Sets the signals to what the cabinets show at a tick, behind the answer to it."""
+        """Sets the signals to what the cabinets show at a tick, after the answer to it."""
         changed = self.take(lines)
         due = [(cabinet, light) for cabinet in changed for light in self.lights[cabinet]]
         due += [it for it in self.always if it[0] not in changed]

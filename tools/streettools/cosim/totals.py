@@ -36,7 +36,7 @@ class Mean(NamedTuple):
 
 
 def point(freedom: int) -> float:
-    """Returns the two-sided point of 95 % of Student's distribution: by the table, and behind it by a series in one
+    """Returns the two-sided point of 95 % of Student's distribution: by the table, and beyond it by a series in one
     over the degrees of freedom, which is right to 0.001 there."""
     if freedom <= len(TWO_SIDED_95):
         return TWO_SIDED_95[freedom - 1]

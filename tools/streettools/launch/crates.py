@@ -64,8 +64,7 @@ def files(top: pathlib.Path) -> Iterator[str]:
 
 
 def folders(names: list[str]) -> list[str]:
-    """Returns the folders in which these files' own folders stand: what is moved to the place of a folder changes the
-    one above it."""
+    """Returns the folders that contain these files' own folders: they change if a folder in them is replaced."""
     found: set[str] = set()
     for name in names:
         found.update(str(it) for it in list(pathlib.PurePath(name).parents)[1:-1])

@@ -35,8 +35,8 @@ class Untold(Exception):
 
 
 def by_program(program: str, scenario: bytes, before: bytes) -> bytes | None:
-    """Returns the line that a run of the program writes behind a beginning of a trace, with its newline; the empty
-    line where nothing follows, None if the run writes another beginning."""
+    """Returns the line that a run of the program writes after a beginning of a trace, with its newline; the empty line
+    if nothing follows, None if the run writes another beginning."""
     with tempfile.TemporaryFile() as given:
         given.write(scenario)
         given.seek(0)
@@ -82,7 +82,7 @@ def line_due(program: str, before: bytes) -> bytes:
 
 
 def at_opening(program: str, read: bytes) -> list[str]:
-    """Returns what is said of a first line that has no scenario."""
+    """Returns what is printed for a first line that has no scenario."""
     due = b"S and a scenario in its compact text"
     if read.startswith(b"S ") and program:
         answer = ran(program, "run", given=read[2:])
@@ -106,7 +106,7 @@ def shown(read: bytes, due: bytes) -> list[str]:
 
 
 def behind(program: str, text: bytes, number: int) -> list[str]:
-    """Returns what is said of a later line of a text."""
+    """Returns what is printed for a later line of a text."""
     lines = text.split(b"\n", number)
     before, read = b"".join(line + b"\n" for line in lines[: number - 1]), lines[number - 1]
     try:
@@ -136,14 +136,14 @@ def told(program: str, text: bytes, said: str) -> list[str]:
 
 
 def tell(program: str, text: bytes, said: str) -> None:
-    """Tells on standard error what is said behind the program's line."""
+    """Prints to standard error what follows the program's line."""
     for line in told(program, text, said):
         say("arterial", line)
 
 
 def main(given: list[str]) -> int:
-    """Tells what is said behind the program's line; the words are the program's path and that line, and the text is a
-    file on standard input."""
+    """Prints what follows the program's line; the words are the program's path and that line, and the text is a file on
+    standard input."""
     program, said = given
     sys.stdin.buffer.seek(0)
     tell(program, sys.stdin.buffer.read(), said)

@@ -1,10 +1,10 @@
 """`./arterial take`: puts a proof that was made elsewhere into a checkout of the same sources.
 
-The file is what tools/release makes: a gzipped tar archive with the program, the checksums of it and of every source
-of its proof, the kit's lines about the proof, and a line about the maker. It is read strictly: these names, regular
-files, bounded sizes. A proof of other sources is refused with the first file that differs. Whether the maker told the
-truth can't be seen from the file: until `./arterial prove` has confirmed it here, each call says "proved by its maker,
-not here". A checksum that came by another way (--sum) at least ties the file to its maker.
+The file is what tools/release makes: a gzipped tar archive with the program, the checksums of it and of every source of
+its proof, the kit's lines about the proof, and a line about the maker. It is read strictly: these names, regular files,
+bounded sizes. A proof of other sources is refused with the first file that differs. The file can't show whether the
+maker told the truth: until `./arterial prove` has confirmed it here, each call says "proved by its maker, not here". A
+checksum that came by another way (--sum) at least ties the file to its maker.
 """
 
 import argparse

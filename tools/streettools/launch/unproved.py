@@ -34,14 +34,14 @@ USUAL = 60
 
 ENDED = re.compile(rb"^run=ended status=(\d+) .*proved=no$", re.M)
 OWN = re.compile(rb"^(?:interpreter|checked|races|run=)", re.M)
-"""Where the kit's own lines begin, behind those of the program."""
+"""Where the kit's own lines begin, after those of the program."""
 
 WAY = "./arterial prove (or ./test) proves the program here, which has no such limit"
 LIMITS = (
     (rb"wrote more than \d+ bytes", f"the answer is longer than 1 MiB, which an unproved run can't give. {WAY}"),
     (rb"did not end within the time limit", f"the answer takes longer than {SECONDS} seconds unproved. {WAY}"),
 )
-"""What the kit says where a limit ended the run, and what is said of it here."""
+"""What the kit prints if a limit ended the run, and what is printed here instead."""
 
 
 class Unfinished(Exception):

@@ -1,7 +1,7 @@
 """The time-space diagram of a street: the coordinated greens of several cabinets, and the bands through them.
 
-Outbound goes with ring 1's coordinated phases from the first cabinet to the last, inbound with ring 2's back again. The
-bands are those of the greens that were shown; beside them those of a plan can be drawn.
+Outbound traffic has ring 1's coordinated phases from the first cabinet to the last, inbound traffic ring 2's in the
+other direction. The bands are those of the greens that were shown; those of a plan can be drawn in addition.
 """
 
 import textwrap
@@ -80,7 +80,7 @@ class Corner:
                 self.used = [self.pair]
 
     def show(self, way, letter, tick):
-        """Ends what a way showed before, where it differs, and begins what is shown now."""
+        """Ends what a way showed before, if it differs, and begins what it shows now."""
         before, since = self.now[way]
         if letter == before:
             return
@@ -93,7 +93,7 @@ class Corner:
         return [(since, end) for since, end in self.spans[way][letter] if since < self.end and end > self.start]
 
     def close(self, last):
-        """Ends at the end of the trace what is shown then."""
+        """Ends, at the end of the trace, what is shown then."""
         for way in (0, 1):
             self.show(way, "R", last)
 

@@ -15,7 +15,7 @@ class NoBands(Fault):
 
 
 class Beat(NamedTuple):
-    """How a cycle runs beside the ticks of a trace: its length, and the time of the cycle at tick 0."""
+    """A cycle in terms of the ticks of a trace: its length, and the time of the cycle at tick 0."""
 
     cycle: int
     ahead: int

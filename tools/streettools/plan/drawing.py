@@ -159,7 +159,7 @@ def of_tables(tables: Tables) -> Drawing | None:
 
 
 def order_lines(drawing: Drawing | None, rings: list[tuple]) -> list[str]:
-    """Returns the lines of a sequence, with bars where the drawing has barriers and the phases of each side stand
+    """Returns the lines of a sequence, with bars where the drawing has barriers and the phases of each side are
     together."""
     plain = [" ".join(map(str, ring)) for ring in rings]
     if drawing is None:

@@ -90,7 +90,7 @@ class Time:
         return found
 
     def what(self) -> str:
-        """Returns the unit behind a number."""
+        """Returns the unit after a number."""
         return "" if self.unit is Unit.COUNT else " s"
 
     def show(self, value: int) -> int | float:
@@ -169,7 +169,7 @@ PHASE_FIELDS: dict[str, Field] = {
     "dynamic_max_limit": seconds(18, PHASE), "dynamic_max_step": tenths(19, PHASE), "ring": count(22, PHASE),
     "concurrent": Phases(23),
 }  # fmt: skip
-"""What a sheet may say of a phase, beside its options."""
+"""What a sheet may say of a phase, in addition to its options."""
 
 UNIT_FIELDS: dict[str, Field] = {
     "correction": Word(1, {1: "other", 2: "dwell", 3: "shortway", 4: "add only"}),

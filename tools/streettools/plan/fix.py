@@ -83,8 +83,8 @@ class Ring:
         return self.cost(phase, ceiling(least_service(self.laid.tables, phase) + self.laid.tables.clearance(phase)))
 
     def behind(self, phases: list[int]) -> list[np.ndarray]:
-        """Returns, for each of some last phases of the side and for none, the least cost of it and those behind it by
-        their length."""
+        """Returns, for each of some last phases of the side and for none, the least cost of it and of those after it,
+        by their length."""
         found = [np.where(self.seconds == 0, 0, NEVER)]
         for phase in reversed(phases):
             costs = added(found[0], self.waited(phase))
@@ -95,7 +95,7 @@ class Ring:
 
     @cached_property
     def tail(self) -> list[np.ndarray]:
-        """The costs of the phases behind the coordinated one, or of all."""
+        """The costs of the phases after the coordinated one, or of all."""
         return self.behind(self.phases if self.at is None else self.phases[self.at + 1 :])
 
     @cached_property

@@ -24,7 +24,7 @@ HOMES = {
     **dict.fromkeys(("speed", "grade", "crossing", "width"), "[intersection.phase]"),
     **dict.fromkeys((*fields.PATTERN_FIELDS, *SPLIT_NAMES), "[intersection.pattern.1], or another pattern"),
 }  # fmt: skip
-"""Where names stand that people write elsewhere."""
+"""The right table for names that people write in a wrong one."""
 
 ABOUT = ("name", "kind", "speed", "grade", "crossing", "width")
 

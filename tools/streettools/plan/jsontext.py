@@ -1,5 +1,5 @@
-"""The text of a scenario as JSON (RFC 8259): where it can't be read, with what was expected there; and where a value
-stands."""
+"""The text of a scenario as JSON (RFC 8259): where it can't be read, with what was expected there; and the place of a
+value."""
 
 import json
 import math
@@ -127,7 +127,7 @@ def refuse_constant(text: str, name: str) -> None:
 
 
 def refuse_depth(text: str) -> None:
-    """Refuses lists and objects that stand too deep in each other."""
+    """Refuses lists and objects that are nested too deep."""
     depth = 0
     for found in re.finditer(r'"(?:[^"\\]|\\.)*"|[\[{]|[\]}]', text):
         mark = found[0]
@@ -154,7 +154,7 @@ def steps(path: str) -> list[str | int]:
 
 
 def space(text: str, at: int) -> int:
-    """Returns the place behind white space."""
+    """Returns the place after white space."""
     while at < len(text) and text[at] in " \t\r\n":
         at += 1
     return at
@@ -187,7 +187,7 @@ def member(decoder: json.JSONDecoder, text: str, at: int, name: str) -> int | No
 
 
 def item(decoder: json.JSONDecoder, text: str, at: int, number: int) -> int | None:
-    """Returns where an item of the list at a place stands."""
+    """Returns where an item of the list at a place is."""
     if text[at] != "[":
         return None
     at = space(text, at + 1)

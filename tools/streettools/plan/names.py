@@ -181,5 +181,5 @@ def read(content: str) -> Names:
 
 
 def beside(path: pathlib.Path) -> pathlib.Path:
-    """Returns where the names of a scenario's file stand: street.json has street.names.json."""
+    """Returns the path of the names of a scenario's file: street.json has street.names.json."""
     return path.with_name(path.name.removesuffix(".json") + ".names.json")

@@ -57,7 +57,7 @@ def split_doubts(found: Read, number: int, said: set[int], called: str) -> Itera
 
 
 def coordinated(said: object, found: Read) -> tuple[int, ...]:
-    """Returns the coordinated phases; a partner is coordinated beside the phase that it faces."""
+    """Returns the coordinated phases; a partner is coordinated along with the phase that it faces."""
     pair = fields.Phases(5).read(said)
     if any(it not in ALL for it in pair):
         raise Wrong(f"{said!r} has numbers that aren't phases")
@@ -65,8 +65,8 @@ def coordinated(said: object, found: Read) -> tuple[int, ...]:
 
 
 def fill_split_partners(found: Read, number: int, said: set[int], pair: tuple[int, ...] | None) -> None:
-    """Gives each partner that nothing was said of the time of the phases that it faces, and coordinates it beside
-    them."""
+    """Gives each partner that the split doesn't name the time of the phases that it faces, and coordinates it along
+    with them."""
     for partner in found.partners:
         if partner in said:
             continue

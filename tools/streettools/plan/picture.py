@@ -28,7 +28,7 @@ ROWS = {
 
 @dataclass(frozen=True)
 class Slot:
-    """The slot of a phase: where it stands, in seconds, and in which ring."""
+    """The slot of a phase: when it starts, in seconds, and in which ring."""
 
     phase: int
     ring: int

@@ -59,7 +59,7 @@ class Load:
         return {" ".join(it.split()) for it in (self.called, self.called_before)}
 
     def lines(self) -> Iterator[str]:
-        """Yields what is to be done, in words."""
+        """Yields the steps to do, in words."""
         count, cells = len(self.downloads), differing(self.old, self.new)
         yield f"{self}: {count} download{'s'[: count - 1]}, {len(cells)} value{'s'[: len(cells) - 1]} to change"
         for cell in cells:

@@ -149,7 +149,7 @@ class Sentences:
         raise AssertionError("the sequence keeps the rule")
 
     def rule_9(self, row: int) -> str:
-        """The phases of a side stand together, and the sides in one order in both rings."""
+        """The phases of a side are together, and the sides are in one order in both rings."""
         side = sides_by_phase(self.tables)
         for ring in RINGS:
             order = value(self.tables, ("sequence", row, ring))

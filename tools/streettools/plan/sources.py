@@ -1,5 +1,5 @@
-"""Files that `plan` reads: sheets (TOML), workbooks, scenarios and field files (JSON), told apart by their names or by
-their first letters."""
+"""Files that `plan` reads: sheets (TOML), workbooks, scenarios and field files (JSON), distinguished by their names or
+by their first letters."""
 
 import pathlib
 from collections.abc import Callable, Iterator

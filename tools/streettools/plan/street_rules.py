@@ -101,7 +101,7 @@ def side_turns(tables: Tables, number: int, ring: int) -> list[frozenset[int]]:
 
 
 def rule_9(tables: Tables) -> Iterator[int]:
-    """The phases of a side stand together, and the sides in one order in both rings."""
+    """The phases of a side are together, and the sides are in one order in both rings."""
     for number in used_sequences(tables):
         turns = [side_turns(tables, number, ring) for ring in RINGS]
         if turns[0] != turns[1] or len(set(turns[0])) < len(turns[0]):

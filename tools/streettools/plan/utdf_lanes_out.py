@@ -43,7 +43,7 @@ class Groups:
         self.lanes.setdefault(record, {}).setdefault(lanes, said)
 
     def columns(self) -> list[str]:
-        """Returns the lane groups that something is said of, beside the usual ones."""
+        """Returns the lane groups with a record that aren't among the usual ones."""
         return [lanes for row in self.lanes.values() for lanes in row if lanes not in COLUMNS]
 
 

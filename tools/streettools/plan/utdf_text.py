@@ -130,7 +130,8 @@ def section_of(first: str, row: list[str]) -> str | None:
 
 
 def record_of(header: list[str], row: list[str], file: str, line: int, found: Utdf) -> Row:
-    """Returns a record. Fields behind the header are a fault: a comma within a number moves all fields after it."""
+    """Returns a record. Fields after those of the header are a fault: a comma within a number moves all fields after
+    it."""
     entries = [
         Entry.at(it, file, line, column, header[column - 1] if column <= len(header) else "no header")
         for column, it in enumerate(row, 1)

@@ -31,7 +31,7 @@ FORCE_WORDS = {2: 2, 3: 1}
 DETECTOR_COLUMNS = {4: "phase", 6: "delay", 7: "extend", 9: "no_activity", 10: "max_presence", 11: "erratic"}
 PER_SECOND = {"delay": 0.1, "extend": 0.1, "no_activity": 60, "max_presence": 60}
 STATUS = ((1, 4), (4, 10), (4, 11), (4, 12), (4, 13))
-"""Objects below asc that tell what is shown just now, and so have no place in a plan."""
+"""Objects below asc that are a present state, and so have no place in a plan."""
 
 SUBJECTS = {
     (1, 1): "maxPhases", (1, 3): "maxPhaseGroups", (1, 5): "phaseControlGroupTable", (2,): "detector", (3,): "unit",
@@ -173,7 +173,7 @@ class Walked:
             self.leave(name)
 
     def is_quiet(self, name: Name, rest: Name) -> bool:
-        """Tells whether an object says nothing of a plan: an index, or what is shown just now."""
+        """Tells whether an object has nothing of a plan: an index, or a present state."""
         if name[: len(oids.OWN)] == oids.OWN:
             return True
         is_index = (

@@ -32,7 +32,7 @@ def drawings(tables: Tables, known: names.Intersection) -> Iterator[drawing.Draw
 
 
 def about(known: names.Intersection) -> dict[str, Any]:
-    """Returns what a sheet says of phases and preempts beside their times."""
+    """Returns what a sheet says of phases and preempts in addition to their times."""
     found: dict[str, Any] = {}
     for number, it in sorted(known.phases.items()):
         row = names.bare(it)

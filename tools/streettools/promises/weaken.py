@@ -71,7 +71,8 @@ def weakened(unit: str, chance: random.Random) -> tuple[str, str]:
 
 
 def trials(top: pathlib.Path, count: int, seed: int) -> Iterator[tuple[str, str, str, str, bool]]:
-    """Weakens that many units in turn; yields the place, the way, the unit, what is left, and whether it is noticed."""
+    """Weakens that many units in turn; yields the place, the way, the unit, what is left, and whether a promise notices
+    it."""
     chance, old, drawn = random.Random(seed), record.read(top / record.PROMISES), pools(top)
     with tempfile.TemporaryDirectory() as folder:
         for it in (*top.glob("crates/*/specs"), *top.glob("crates/*/src")):

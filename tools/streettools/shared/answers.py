@@ -21,7 +21,8 @@ OBJECTS = {
     oids.BEGIN: "downloadBegin.0", oids.ID: "downloadId.0", oids.PART: "downloadPart.0",
     oids.TOTAL: "downloadTotal.0", oids.FINISH: "downloadFinish.0",
 }  # fmt: skip
-"""The objects that a Set may have beside the columns of the tables, by their names in `mibs/ARTERIAL-PROFILE-MIB`."""
+"""The objects that a Set may have in addition to the columns of the tables, by their names in
+`mibs/ARTERIAL-PROFILE-MIB`."""
 
 ERRORS = {1: "tooBig", 2: "noSuchName", 3: "badValue", 4: "readOnly", 5: "genErr"}
 """The error statuses of RFC 1157."""

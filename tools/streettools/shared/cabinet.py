@@ -53,8 +53,8 @@ def changed(pair: tuple[str, str]) -> Changes:
 
 class Cycle(NamedTuple):
     """A cycle of a pattern begins: `pickup` says whether the pattern was taken up, `error` by how many ticks it begins
-    late (above 0) or early (below 0) by the cabinet's clock; None if the pattern's cycle isn't told. `elapsed`
-    counts the ticks since the local zero before, and is None at a pickup."""
+    late (above 0) or early (below 0) by the cabinet's clock; None if the pattern's cycle isn't known. `elapsed` counts
+    the ticks since the local zero before, and is None at a pickup."""
 
     tick: int
     pattern: int
@@ -168,8 +168,8 @@ class Cabinet:
         return target if late or target == 0 else target - known.cycle
 
     def needed(self, cycle: Cycle) -> int | None:
-        """Returns in how many cycles at most an undisturbed cabinet comes onto its offset, from a cycle that begins;
-        None if the pattern's cycle isn't told."""
+        """Returns the maximum number of cycles in which an undisturbed cabinet reaches its offset, from a cycle that
+        begins; None if the pattern's cycle isn't known."""
         known = self.plan(cycle.pattern)
         if known is None:
             return None

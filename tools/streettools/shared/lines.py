@@ -43,7 +43,7 @@ def number(digits: bytes, most: int = MOST) -> int:
 
 
 usual = lru_cache(MOST_KEPT)(number)
-"""Does the same for numbers that come over and over."""
+"""Does the same for numbers that are often repeated."""
 
 
 def signed(digits: bytes) -> int:

@@ -17,7 +17,7 @@ if TYPE_CHECKING:
     from collections.abc import Callable, Sequence
 
 HERE = os.path.dirname(os.path.dirname(os.path.dirname(os.path.realpath(__file__))))
-"""The folder that has the package: `tools` of a checkout, or the one of an installation, which has the program beside
+"""The folder that has the package: `tools` of a checkout, or the one of an installation, which has the program next to
 it."""
 OWN, FINDER = os.path.join(HERE, "arterial"), os.path.join(HERE, "proved")
 """The program of an installation, and the script that finds the one of a checkout."""
@@ -205,8 +205,7 @@ class Running:
         return Ran(self.process.returncode, out or b"", one_line(said))
 
     def closed(self) -> Ran:
-        """Waits a while for the end of a program that has closed its output or its input, and returns what is left to
-        know of it."""
+        """Waits a while for the end of a program that has closed its output or its input, and returns its result."""
         import subprocess
 
         with contextlib.suppress(subprocess.TimeoutExpired):

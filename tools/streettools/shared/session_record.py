@@ -1,7 +1,7 @@
-"""The trace of a session, from what was asked and answered.
+"""The trace of a session, from its requests and answers.
 
 docs/LIVE.md, "What a session means". Nothing is worked out here: the lines are those of the answers, put in the order
-of a trace behind the S line of the scenario that results.
+of a trace after the S line of the scenario that results.
 """
 
 import functools
@@ -40,7 +40,7 @@ def runs_of(line: bytes) -> Runs:
 
 
 def joined(runs: Runs) -> Runs:
-    """Returns runs of which no two of one pass stand side by side, and none is empty."""
+    """Returns runs of which no two neighbours are of one pass, and none is empty."""
     found: Runs = []
     for number, count in runs:
         if found and found[-1][0] == number:
@@ -200,7 +200,7 @@ class SessionRecord:
         return b"J %d %b" % (cabinet, b" ".join(b"%d*%d" % run for run in runs))
 
     def cut(self) -> None:
-        """Ends the record with the last whole round, as where the session broke off; what came behind is left out."""
+        """Ends the record with the last whole round, as if the session ended there; what follows is left out."""
         while self.lines and not self.lines[-1].startswith(b"R "):
             self.lines.pop()
         if self.lines:

@@ -73,7 +73,7 @@ class CabinetRound:
         self.answers: list[tuple[int, int, int]] = []
 
     def spread(self, runs: tuple[tuple[int, int], ...], inputs: Sequence[Sensed]) -> None:
-        """Puts the inputs and the replies of a journal behind the ticks that come before them: both in lists from the
+        """Puts the inputs and the replies of a journal after the ticks that come before them: both in lists from the
         last to the first."""
         tick, place = self.end, 0
         for way, count in runs:
@@ -152,7 +152,7 @@ class TraceReader:
         self.line = first - self.whole
 
     def told(self, text: bytes) -> Sequence[Happening]:
-        """Returns what a line tells, and what is over with it."""
+        """Returns what a line says, and what is over with it."""
         letter = text[:1]
         if self.opened < self.cabinets:
             self.opened += 1
@@ -222,7 +222,7 @@ class TraceReader:
         return left
 
     def placed(self, record: Record) -> Sequence[Happening]:
-        """Returns what a line tells that stands within a cabinet's round, or that notes something."""
+        """Returns what a line says that is within a cabinet's round, or that notes something."""
         if self.whole:
             raise ValueError
         match record:

@@ -104,14 +104,14 @@ def asked_for(given: argparse.Namespace, program: pathlib.Path) -> tuple[dict[st
 
 
 def names_of(scenario: str) -> "Names | None":
-    """Returns the names of a sheet, or of the file with names beside a scenario, None if there are none."""
+    """Returns the names of a sheet, or of the file with names next to a scenario, None if there are none."""
     from ..plan import streets  # takes a while
 
     return streets.text_of(scenario).names
 
 
 def street_of(given: argparse.Namespace, hearers: list[Hearer]) -> tuple[Street, list[bytes]]:
-    """Returns the street that the words ask for, and what is to happen again in it."""
+    """Returns the street that the words ask for, and the requests to replay in it."""
     program, is_step = answering(given.program, say), words.is_step(given)
     scenario, requests = asked_for(given, program)
     street = Street(str(program), scenario, Pace(0.0 if is_step else given.speed), hearers)
@@ -131,7 +131,7 @@ def tell_places(street: Street, places: list[ports.Place]) -> None:
 
 
 async def held(street: Street, requests: list[bytes], by_clock: bool) -> None:
-    """Lets the street live: what is to happen again first."""
+    """Runs the street: first the requests to replay."""
     if requests:
         street.is_replaying = True
         await Replay(street, requests, street.pace if by_clock else None).play()
@@ -164,7 +164,7 @@ class Opened:
         return [self.state, self.panel]
 
     def hearing(self, asks: ports.Asked) -> ports.Asked:
-        """Returns what asks the cabinets, and shows in the panel what was asked and answered."""
+        """Returns a function that asks the cabinets, and shows requests and answers in the panel."""
 
         async def asked(cabinet: int, octets: bytes, manager: ports.Manager) -> bytes | None:
             reply = await asks(cabinet, octets, manager)
@@ -191,7 +191,7 @@ class Opened:
 
 @dataclass
 class Asked:
-    """What the words ask for: a street, what is to happen again in it, its ports, its panel."""
+    """What the words ask for: a street, the requests to replay in it, its ports, its panel."""
 
     given: argparse.Namespace
     street: Street

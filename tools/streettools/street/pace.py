@@ -5,7 +5,7 @@ from collections.abc import Callable
 
 TICKS_A_SECOND = 10
 MOST_BEHIND = 600
-"""How many ticks are made up for at most after the machine stood still; what is more is left out."""
+"""How many ticks are made up for at most after the machine was suspended; any more are left out."""
 
 
 class Pace:

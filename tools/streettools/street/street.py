@@ -176,8 +176,8 @@ class Street:
             self.turns -= 1
 
     def make_room(self) -> None:
-        """Ends a round that is almost full, as where time stands and messages come: the program keeps them until their
-        round is over."""
+        """Ends a round that is almost full, as when time is stopped and messages arrive: the program keeps them until
+        their round is over."""
         if ticks := self.session.make_room():
             for hearer in self.hearers:
                 hearer.ended_round(ticks)

@@ -81,7 +81,7 @@ class Builder:
         return answer.out
 
     def document(self, variant: Variant) -> dict[str, Any]:
-        """Returns the scenario with what the variant puts, and the study's tables beside it."""
+        """Returns the scenario with what the variant puts, and the study's tables next to it."""
         other = next((it.scenario for it in variant.values if isinstance(it, Option) and it.scenario), None)
         seeded = variant.seed if self.study.base.kind is BaseKind.GENERATE else None
         base = self.base(other, None if other else seeded)

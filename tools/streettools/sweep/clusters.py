@@ -107,7 +107,7 @@ class Dask(Crew):
         raise Fault(f"a worker failed: {type(fault).__name__}: {fault}", Status.FILE)
 
     def gone(self) -> Fault:
-        """Returns what is said if the scheduler answers no more."""
+        """Returns what is printed if the scheduler no longer answers."""
         words = f"the scheduler at {self.address} is gone; finished runs are kept, and --resume continues"
         return Fault(words, Status.FILE)
 

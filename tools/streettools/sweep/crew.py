@@ -50,12 +50,12 @@ class Crew(abc.ABC):
 
     @abc.abstractmethod
     def waits(self, ticket: Any, over: Callable[[Any], object]) -> None:
-        """Lets `over` get a ticket once more when its variants are over."""
+        """Lets `over` get a ticket again when its variants are over."""
 
     @abc.abstractmethod
     def rows(self, ticket: Any) -> Rows | None:
-        """Returns the results of variants that are over, None if they were lost and the variants run once more. `Lost`
-        is raised if workers died with them, `Fault` if a worker can't continue."""
+        """Returns the results of variants that are over, None if they were lost and the variants run again. `Lost` is
+        raised if workers died with them, `Fault` if a worker can't continue."""
 
     @abc.abstractmethod
     def end(self, tickets: list[Any]) -> None:

@@ -104,8 +104,8 @@ class Engine:
         self.jobs[self.crew.submit(indexes, self.over.put)] = job
 
     def take(self, ticket: Any, job: Job) -> None:
-        """Takes the results of a batch. If they were lost with a worker, the batch is waited for once more; if workers
-        died with it repeatedly, it is sent run by run, to find the run that does it."""
+        """Takes the results of a batch. If they were lost with a worker, the batch is waited for again; if workers died
+        with it repeatedly, it is sent run by run, to find the run that does it."""
         try:
             rows = self.crew.rows(ticket)
         except Lost:

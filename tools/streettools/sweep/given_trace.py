@@ -106,7 +106,7 @@ def traffic_of(folder: Path, start: float) -> dict[tuple[int, int], Count]:
 
 
 def measured(words: argparse.Namespace) -> tuple[list[str], list[Any]]:
-    """Returns the names and the values of what is asked for."""
+    """Returns the names and the values of the measures that are asked for."""
     asked = choice.columns_of(words.measures)
     path, program = Path(words.trace), found(words.program)
     folder = path if path.is_dir() else path.parent

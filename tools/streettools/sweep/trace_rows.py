@@ -17,8 +17,8 @@ LAST = rb"(?![^\n])"
 FRAME = rb"\nF %s %s ([GYCR]{16}) ([WFD]{16}) ([A-Z0-9a-z]+) %s %s %s" % ((NUMBER,) * 5)
 FRAMES = re.compile(FRAME + LAST)
 ROWS = re.compile(rb"(?:%s|\n([RLM][^\n]*))" % FRAME + LAST)
-"""Frames, and beside them the lines that tell rounds, ends of downloads and notes. J lines tell nothing new here, and A
-lines repeat what was asked."""
+"""Frames, and the lines of rounds, ends of downloads and notes. J lines have nothing new here, and A lines repeat what
+was asked."""
 
 Row = tuple[bytes, bytes, bytes, bytes, bytes, bytes, bytes, bytes]
 """A frame as it is written: cabinet, tick, colours, pedestrian signals, mode, counter, target, version."""
@@ -56,7 +56,7 @@ def frame_of(row: Row) -> Frame:
 
 
 def blocks(stream: BinaryIO) -> Iterator[bytes]:
-    """Yields a trace behind its first line: each block begins with the end of a line, and ends before one."""
+    """Yields a trace after its first line: each block begins with the end of a line, and ends before one."""
     rest = b""
     while part := stream.read(BLOCK):
         if not rest:

@@ -46,10 +46,10 @@ class Seen(NamedTuple):
 
 
 class Story(NamedTuple):
-    """What there is to say. `since` is the tick at which the phase began to show its colour; `call` is the call that
-    stands (of a green, that for which it came), `came` the tick at which it turned green (after the tick, if it wasn't
-    green at it), `gone` the tick at which its green ended; `how` says how it came, `ended` how its green ended; `last`
-    is the last tick that was looked at."""
+    """The facts of an answer. `since` is the tick at which the phase began to show its colour; `call` is the call that
+    lasts (of a green, the one that it served), `came` the tick at which it turned green (after the tick, if it wasn't
+    green at it), `gone` the tick at which its green ended; `how` says why it turned green, `ended` why its green ended;
+    `last` is the last tick that was looked at."""
 
     cabinet: int
     phase: int

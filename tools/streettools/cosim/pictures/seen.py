@@ -103,7 +103,7 @@ def label(axes: Any, text: str) -> None:
 
 
 def room(labels: list[str]) -> list[str]:
-    """Returns labels as wide as they are with the numbers of the axis beside them."""
+    """Returns labels widened by the numbers of the axis next to them."""
     return ["\n".join(f"{line}{' ' * 8}" for line in it.split("\n")) for it in labels]
 
 

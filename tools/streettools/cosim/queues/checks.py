@@ -83,7 +83,7 @@ def phases_are_served(volumes: Volumes, tables: dict[int, Tables]) -> None:
 
 
 def names_are_known(volumes: Volumes) -> None:
-    """Refuses equal names, approaches and profiles that aren't there, and approaches that aren't told apart."""
+    """Refuses duplicate names, approaches and profiles that don't exist, and ambiguous approaches."""
     names: set[tuple[int, str]] = set()
     approaches: dict[tuple[int, str], list[Flow]] = {}
     for it in volumes.flows:

@@ -4,7 +4,8 @@ from .lines import StopLine
 from .volumes import Flow
 
 SPEED, SPACING = 13.4, 7.5
-"""How fast vehicles drive up (m/s), and how far apart they stand (m): how many fit between a detector and the line."""
+"""The speed at which vehicles arrive (m/s), and their spacing in a queue (m): how many fit between a detector and the
+line."""
 
 
 class PhaseDetectors:

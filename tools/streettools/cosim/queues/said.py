@@ -51,8 +51,8 @@ def with_travels(volumes: Volumes, said: Said) -> Volumes:
 
 
 def fitted(volumes: Volumes, said: Said) -> Volumes:
-    """Returns the volumes with what is said already: placeholder phases without traffic are idle, and times of travel
-    are those of the sheet where the file has none."""
+    """Returns the volumes with what the sheet says: placeholder phases without traffic are idle, and times of travel
+    that the file lacks are those of the sheet."""
     busy = {(it.cabinet, it.phase) for it in volumes.flows} | {(it.cabinet, it.phase) for it in volumes.crossings}
     found = with_travels(volumes, said)
     return replace(found, idle=found.idle | (said.placeholders - busy))

@@ -23,8 +23,8 @@ MOST_TICKS, MOST_ROUNDS = 55_296_000, 86_400
 
 @dataclass(frozen=True)
 class Asked:
-    """What is asked of a run: how many seconds, the ticks of a step, the seed, what is left out at the beginning,
-    whether the scenario's own inputs stay, whether the trace is kept."""
+    """The settings of a run: how many seconds, the ticks of a step, the seed, what is left out at the beginning,
+    whether the scenario's own inputs are kept, whether the trace is kept."""
 
     seconds: float
     step: int = 10

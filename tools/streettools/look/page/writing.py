@@ -32,8 +32,8 @@ CODE = (
 
 
 class Asked(NamedTuple):
-    """What was asked for beside the trace: the street's cabinets in order, the ticks of travel between them or None,
-    and the seconds from midnight at which tick 0 stands, or None."""
+    """The options in addition to the trace: the street's cabinets in order, the ticks of travel between them or None,
+    and the seconds from midnight to tick 0, or None."""
 
     street: list[int]
     travel: list[int] | None
@@ -54,7 +54,8 @@ def library(path: pathlib.Path) -> str:
 
 
 def shown_pairs(numbers: CabinetNumbers, partners: frozenset[int]) -> list[list[int]]:
-    """Returns the coordinated phases from tick to tick; for a partner stands the other one, which it is green with."""
+    """Returns the coordinated phases from tick to tick; a partner is replaced by the other phase, which it is green
+    with."""
     found = []
     for tick, one, other in numbers.pairs:
         found.append([tick, other if one in partners else one, one if other in partners else other])
@@ -62,7 +63,7 @@ def shown_pairs(numbers: CabinetNumbers, partners: frozenset[int]) -> list[list[
 
 
 def cabinet_head(numbers: CabinetNumbers, names: Called) -> dict[str, Any]:
-    """Returns what a page says of a cabinet beside its numbers."""
+    """Returns what a page says of a cabinet in addition to its numbers."""
     number = numbers.cabinet.number
     partners = names.partners(number)
     preempts = {it: names.preempt(number, it) for it in range(1, 17)} if names.is_given else {}

@@ -36,7 +36,7 @@ Parted = list[tuple[int, Binding]]
 
 
 class Cabinet:
-    """A cabinet behind the front."""
+    """A cabinet and its front."""
 
     def __init__(
         self, street: Street, cabinet: int, before: "Cabinet | None" = None, is_carried: bool = False
@@ -113,7 +113,7 @@ class Cabinet:
         return [Binding(name, found[name] or absent(name)) for name in names]
 
     async def following(self, name: Arcs) -> Binding | None:
-        """Returns the first object behind a name, of the front or of the cabinet; None behind the last."""
+        """Returns the first object after a name, of the front or of the cabinet; None after the last."""
         place = bisect.bisect_right(ORDER, name)
         own = ORDER[place] if place < len(ORDER) else None
         other = await self.front.side.next(name)
@@ -122,7 +122,7 @@ class Cabinet:
         return Binding(own, await OBJECTS[own](self.front))
 
     async def got_next(self, asked: Message, binds: list[Binding]) -> list[Binding]:
-        """Returns the objects behind some names."""
+        """Returns the objects after some names."""
         found = []
         for at, it in enumerate(binds, 1):
             after = await self.following(it.arcs)

@@ -1,7 +1,7 @@
-"""The objects that the front answers itself, beside those of the cabinet.
+"""The objects that the front answers itself, in addition to those of the cabinet.
 
 Names and numbers are those of the public standards as they are known here: MIB-2's system group (RFC 3418), NTCIP 1201
-and NTCIP 1202. Where that is in doubt docs/CLIENTS.md says so.
+and NTCIP 1202. If that is in doubt, docs/CLIENTS.md says so.
 """
 
 from collections.abc import Awaitable, Callable

@@ -99,7 +99,7 @@ class Transaction:
             raise Fault(GEN_ERR, 1)
 
     def end(self, state: int, verified: int, error: bytes) -> None:
-        """Says where the transaction stands."""
+        """Sets the state of the transaction, and the result of its verification."""
         self.state, self.verified, self.error = state, verified, error
         self.was_verified = verified == WITHOUT_ERROR
 

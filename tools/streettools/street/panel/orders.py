@@ -43,7 +43,7 @@ class Rate:
 
 @dataclass(frozen=True)
 class Speed:
-    """The speed at which time goes on; with 0 it stands."""
+    """The speed at which time advances; with 0 it is stopped."""
 
     speed: float
 

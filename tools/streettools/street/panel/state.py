@@ -43,7 +43,7 @@ class Shown:
     changed: int = 0
 
     def take(self, words: list[str]) -> None:
-        """Takes over a frame line, by its words behind the cabinet."""
+        """Takes over a frame line, by its words after the cabinet."""
         tick, vehicles, pedestrians = int(words[0]), words[1], words[2]
         for at in range(16):
             if vehicles[at] != self.vehicles[at]:
@@ -175,5 +175,5 @@ class PanelState(Hearer):
 
 
 def message_row(tick: int, cabinet: int, octets: bytes, reply: bytes | None) -> list[Any]:
-    """Returns a message in words: tick, cabinet, what was asked, what was answered."""
+    """Returns a message in words: tick, cabinet, request, reply."""
     return [tick, cabinet, asked_text(octets), answered_text(reply)]
