@@ -39,7 +39,7 @@ def correction(tables: Tables) -> Correction:
 
 
 def step(may: Correction, laid: Plan, counter: int, target: int, cycle: Cycle) -> int:
-    """Returns by how much the counter goes on: 1, as time does, 0 or 2."""
+    """Returns by how much the counter advances: 1, as time does, 0 or 2."""
     early = (target - counter - 1) % laid.cycle
     if early == 0 or counter >= laid.window:
         return 1

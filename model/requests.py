@@ -61,7 +61,7 @@ def number(word: bytes, most: int, fault: str) -> int:
 
 
 def flag(word: bytes) -> bool:
-    """Returns whether something goes on; the word says on or off."""
+    """Returns whether a detector or an input turns on; the word is on or off."""
     if word not in (b"on", b"off"):
         raise NotTaken("on")
     return word == b"on"

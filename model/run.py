@@ -100,7 +100,7 @@ class Run:
         return Round(cabinet, inputs, self.link.down(number, cabinet.number, sent), self.scenario.ticks)
 
     def close_round(self, number: int, cabinet: Cabinet) -> None:
-        """Lets a cabinet's replies of a round go up."""
+        """Sends a cabinet's replies of a round to the master."""
         replies = {stream: [it.octets for it in cabinet.replies if it.stream == stream.value] for stream in Stream}
         self.arrived[cabinet.number - 1] = self.link.up(number, cabinet.number, replies)
 

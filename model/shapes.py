@@ -130,7 +130,7 @@ def list_of(item: Shape, low: int, high: int) -> Shape:
 
 @dataclass(frozen=True)
 class Named:
-    """A name of an object: the shape of its value, and what counts where it is absent."""
+    """A name of an object: the shape of its value, and its default."""
 
     name: str
     shape: Shape

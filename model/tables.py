@@ -17,7 +17,7 @@ PEDESTRIAN_RECALL, DUAL_ENTRY = 256, 1024
 
 
 class Tables:
-    """The values of all cells: those that were put, and for all others what a table has that nobody filled in."""
+    """The values of all cells: those that were put, and for all others the defaults of a table."""
 
     def __init__(self, values: dict[Cell, Value]) -> None:
         self.values = values

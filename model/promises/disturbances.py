@@ -37,7 +37,7 @@ class Tick:
 
 
 def rise(street: Street, number: int) -> int:
-    """Returns by how much the clock goes on at a tick."""
+    """Returns by how much the clock advances at a tick."""
     drift = street.setup.drift
     if drift.gain and number % drift.gain == 0:
         return 2

@@ -63,7 +63,7 @@ class LoadEnd:
 
 @dataclass
 class Street:
-    """All that a trace tells of a cabinet."""
+    """All that a trace says of a cabinet."""
 
     number: int
     setup: CabinetSetup
@@ -98,7 +98,7 @@ def seen_in(words: list[str]) -> Seen:
 
 
 def hear(street: Street, message: Message) -> None:
-    """Takes an answer without a fault to a Set: a download that begins or goes on, or what was commanded."""
+    """Takes an answer without a fault to a Set: a download that begins or continues, or an order."""
     names = [NAMES.get(bind.oid) for bind in message.binds]
     if names[:1] == [Scalar.BEGIN]:
         if message.binds[0].value > street.kept:
@@ -180,7 +180,7 @@ def hear_round(lines: Lines, street: Street) -> None:
 
 
 def streets_of(text: bytes) -> tuple[Scenario, list[Street]]:
-    """Returns the scenario of a trace, and what the trace tells of each cabinet."""
+    """Returns the scenario of a trace, and what the trace says of each cabinet."""
     lines = Lines(text)
     scenario = content(read_value(" ".join(lines.words("S"))[2:].encode("latin-1")))
     streets = [Street(number, it, [it.tables]) for number, it in enumerate(scenario.cabinets, 1)]

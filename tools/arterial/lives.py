@@ -72,8 +72,8 @@ class Outcome(NamedTuple):
 class Street:
     """A live session, for one thread at a time: see `arterial.live`.
 
-    A request that isn't accepted raises `Refused`, changes nothing, and the session goes on. A program that dies or is
-    late raises `ProgramDied` or `Late`, and the session has ended. Leaving the `with` block ends the program in any
+    A request that isn't accepted raises `Refused`, changes nothing, and the session continues. A program that dies or
+    is late raises `ProgramDied` or `Late`, and the session has ended. Leaving the `with` block ends the program in any
     case; after that `trace` is the record, and every other request raises `Over`.
     """
 

@@ -32,7 +32,7 @@ class Kept(Session):
 
 
 class Steps(Loop):
-    """A run whose steps are taken by its caller, who brings requests of his own."""
+    """A run whose steps are taken by its caller, which adds its own requests."""
 
     own: list[bytes] = []
     detects = True

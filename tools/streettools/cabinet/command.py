@@ -162,7 +162,7 @@ def cabinet_of(words: argparse.Namespace) -> Cabinet:
 
 
 def answered(cabinet: Cabinet) -> int:
-    """Lets a cabinet answer to its end, and returns the exit status."""
+    """Runs a cabinet until it ends, and returns the exit status."""
     status = Status.DONE
     try:
         asyncio.run(cabinet.serve())

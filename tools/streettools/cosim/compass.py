@@ -2,9 +2,9 @@
 drives along the main street, and 4, 6 and 8 follow by quarter turns to the right. If 2 is eastbound, 4 is southbound, 6
 westbound, 8 northbound, and 5, 7, 1 and 3 are their left turns. Right turns go with the straight ones.
 
-An approach that has none opposite takes its left turns along with its own phase, as the stem of a T does. A left turn
-that shares its lane with another movement goes with the phase of that lane, and yields. Where it is asked for, a left
-turn with a phase of its own is permissive under the phase of those who come from opposite.
+An approach without an opposite one serves its left turns with its own phase, as the stem of a T does. A left turn that
+shares its lane with another movement goes with the phase of that lane, and yields. If it is asked for, a left turn with
+a phase of its own is permissive under the phase of opposing vehicles.
 """
 
 from collections import defaultdict

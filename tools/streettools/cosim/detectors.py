@@ -17,7 +17,7 @@ from .mapping import Map
 from .network import Network
 
 RARELY = 100_000
-"""Seconds after which SUMO would write what a loop saw; nobody reads it."""
+"""Seconds after which SUMO writes what a loop saw; the file isn't read."""
 Key = tuple[int, int]
 """A cabinet and a phase."""
 
@@ -100,12 +100,12 @@ class Detectors:
         self.position = call(sumo, "vehicle", "getLanePosition")
         self.on: set[int] = set()
         self.over: list[int] | None = []
-        """The loops that somebody was over at the last look; None if one had been left just before."""
+        """The loops that a vehicle was over at the last look; None if one had been left just before."""
         self.strays: dict[int, list[Stray]] = {}
         """By row, the vehicles that have stopped on a loop that doesn't see them."""
 
     def changes(self) -> list[bytes]:
-        """Returns the requests that tell what has changed since the last look."""
+        """Returns the requests for detectors that have changed since the last look."""
         recent = self.recent
         seconds = enumerate(map(self.since, self.loops))
         over = [~place if it else place for place, it in seconds if it < recent]

@@ -44,7 +44,7 @@ def approaches(network: Network, cabinets: dict[str, int]) -> list[Approach]:
 
 
 class Crossings:
-    """Looks once a second who is on the lanes over junctions: from which lane each vehicle left an edge."""
+    """Looks once a second which vehicles are on the lanes over junctions: from which lane each left an edge."""
 
     def __init__(self, network: Network, signals: Iterable[str], sumo: Any) -> None:
         self.froms = {
@@ -60,7 +60,7 @@ class Crossings:
         """The lane from which a vehicle left an edge."""
 
     def look(self) -> None:
-        """Keeps who is over junctions now."""
+        """Keeps the vehicles that are over junctions now."""
         for name, count in zip(self.names, map(self.count, self.names)):
             if count:
                 lane = self.froms[name]

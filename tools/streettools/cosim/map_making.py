@@ -29,8 +29,8 @@ class Question:
 
 @dataclass
 class Row:
-    """A movement of a map that is made. `yields` names those to which it gives way; `is_said` tells that the user gave
-    its phase, `may_yield` that the user lets it give way."""
+    """A movement of a map that is made. `yields` names the movements to which it gives way; `is_said` means that the
+    user gave its phase, `may_yield` that the user lets it give way."""
 
     name: str
     phase: int | None

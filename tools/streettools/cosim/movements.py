@@ -218,7 +218,7 @@ class RouteCount:
 
 
 def routes(study: Study) -> dict[tuple[Kind, str], RouteCount]:
-    """Returns what is counted of each route, by who takes it."""
+    """Returns what is counted of each route, by kind of vehicle or person."""
     found: dict[tuple[Kind, str], RouteCount] = {}
     for it in counted_trips(study):
         found.setdefault((it.kind, it.route), RouteCount()).trip(it)
@@ -226,7 +226,7 @@ def routes(study: Study) -> dict[tuple[Kind, str], RouteCount]:
 
 
 def kinds(study: Study) -> dict[Kind, RouteCount]:
-    """Returns what is counted of all trips, by who takes them."""
+    """Returns what is counted of all trips, by kind of vehicle or person."""
     found: dict[Kind, RouteCount] = {}
     for it in counted_trips(study):
         found.setdefault(it.kind, RouteCount()).trip(it)

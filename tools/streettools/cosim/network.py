@@ -89,7 +89,7 @@ class Program(NamedTuple):
 @dataclass
 class Network:
     """All that is kept of a network. `foes` and `yields` have pairs of places in the matrix of each junction: paths
-    that cross or join, and who gives way to whom where both have a green that yields. `inner` is the way over a
+    that cross or join, and which gives way to which if both have a green that yields. `inner` is the way over a
     junction from an edge to an edge, `vias` the first lane over it of each link, by its name."""
 
     path: pathlib.Path
@@ -194,7 +194,7 @@ def read_edges(root: xml.Element, found: Network) -> None:
 
 
 def places_of(root: xml.Element, found: Network) -> dict[tuple[str, str], tuple[str, int]]:
-    """Returns the junction of each link and its place in the matrix; also reads who crosses whom."""
+    """Returns the junction of each link and its place in the matrix; also reads which links cross."""
     ways, crossings = defaultdict(list), defaultdict(list)
     for way in root.iter("connection"):
         start, end = of(way, "from"), of(way, "to")

@@ -138,7 +138,8 @@ class Traffic:
             self.ways[name] = list(self.routes.ways(edges, left, depart - begun.late - begin, begun.place))
 
     def wait(self, pending: dict[str, list[str]], path: pathlib.Path, end: float) -> None:
-        """Takes the routes of those who wait to get in at the end of a run; their wait is in SUMO's file of trips."""
+        """Takes the routes of vehicles that wait to get in at the end of a run; their wait is in SUMO's file of
+        trips."""
         for name, begun in starts_of(path).items() if pending else ():
             if begun.place < 0 and name in pending:
                 edges = pending[name]

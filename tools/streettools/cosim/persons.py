@@ -65,7 +65,7 @@ class Buttons:
         self.areas = sorted({area for it in self.crossings for area in it.areas})
 
     def look(self, sumo: Any, signals: Signals, second: float) -> Iterator[bytes]:
-        """Yields the requests of buttons that are pressed, and keeps who waits and who goes."""
+        """Yields the requests of buttons that are pressed, and keeps the persons who wait and those who go."""
         if not self.there and not self.count():
             self.pressed.clear()
             return
@@ -88,12 +88,12 @@ class Buttons:
             self.leave(crossing, set(coming.get(crossing.edge, ())), second)
 
     def leave(self, crossing: Crossing, here: set[str], second: float) -> None:
-        """Keeps who has gone over a crossing since the last look."""
+        """Keeps the persons who have gone over a crossing since the last look."""
         for person, edge in [key for key in self.there if key[1] == crossing.edge and key[0] not in here]:
             self.close(crossing, person, second)
 
     def close(self, crossing: Crossing, person: str, released: float | None) -> None:
-        """Keeps one who no longer waits."""
+        """Keeps a person who no longer waits."""
         waiting = self.there.pop((person, crossing.edge))
         stood = (person, crossing.edge) in self.stood
         self.stood.discard((person, crossing.edge))
@@ -101,7 +101,7 @@ class Buttons:
         self.crossed.append(Crossed(person, *row, waiting.since, released, waiting.on_walk, stood))
 
     def end(self) -> None:
-        """Keeps those who still wait at the end."""
+        """Keeps the persons who still wait at the end."""
         for crossing in self.crossings:
             for person, edge in list(self.there):
                 if edge == crossing.edge:

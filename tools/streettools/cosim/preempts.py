@@ -32,7 +32,7 @@ class Preempts:
         return {name for item in self.items for name in item.vehicles}
 
     def look(self, sumo: Any, watched: Watched) -> Iterator[bytes]:
-        """Yields the requests that tell what has changed."""
+        """Yields the requests for inputs that have changed."""
         for place, item in enumerate(self.items):
             on = any([self.is_there(sumo, item, vehicle) for vehicle in watched.of(item.vehicles)])
             if on != (place in self.on):

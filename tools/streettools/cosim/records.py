@@ -1,4 +1,4 @@
-"""What is recorded of a street with traffic, whoever drives it: trips, passages of stop lines, queues.
+"""What is recorded of a street with traffic, whatever simulates it: trips, passages of stop lines, queues.
 
 SUMO's runs and the model of queues both hand a `Study` to the report and the pictures. All times are seconds from the
 start of the run, so tick T of the trace is second T / 10; distances are metres.

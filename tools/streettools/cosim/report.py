@@ -81,7 +81,7 @@ def cabinet_value(count: Count) -> Value:
 
 
 def route_value(count: RouteCount) -> Value:
-    """Returns what was counted of a route, or of all who are of a kind."""
+    """Returns what was counted of a route, or of all of a kind."""
     return {
         "trips": count.trips,
         "arrived": count.arrived,

@@ -27,8 +27,8 @@ TRACE, STUDY, REPORT = "session.trace", "study.json", "report"
 
 
 class Left(NamedTuple):
-    """What SUMO says at the end of a run: the class and the greatest speed of each type, the routes of those who wait
-    to get in."""
+    """What SUMO says at the end of a run: the class and the greatest speed of each type, the routes of vehicles that
+    wait to get in."""
 
     types: dict[str, tuple[str, float]]
     pending: dict[str, list[str]]
@@ -168,7 +168,8 @@ def lanes_of(given: Given) -> list[discharge.Approach]:
 
 
 def persons_of(crossed: list[Crossed], walks: dict[str, tuple[float, float | None]]) -> list[Trip]:
-    """Returns the persons who came to crossings: their delay is their waits there, their trips are their whole ways."""
+    """Returns the persons who came to crossings: their delay is their waits there, their trips are their whole
+    walks."""
     rows: dict[str, list[Crossed]] = {}
     for it in crossed:
         rows.setdefault(it.person, []).append(it)

@@ -138,7 +138,7 @@ def programs(given: Given, controller: str) -> xml.ElementTree:
 
 
 def anything(one: Link, other: Link) -> bool:
-    """Lets a link yield: what a network's own program has is its own word."""
+    """Lets any link yield: the network's own program is taken as it is."""
     return True
 
 

@@ -71,7 +71,7 @@ def copied(top: pathlib.Path, to: pathlib.Path, before: dict[str, str]) -> None:
 
 
 def lines_of(said: IO[bytes]) -> Iterator[bytes]:
-    """Yields each line as it is said, and nothing in it where a second passes without one."""
+    """Yields each line as it is written, and an empty one after each second without one."""
     held = b""
     while True:
         if not select.select([said], [], [], 1)[0]:

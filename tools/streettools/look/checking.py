@@ -57,7 +57,7 @@ class Check:
             say("look", f"not checked: {line or f'the program ended with status {status}'}")
 
     def end(self) -> None:
-        """Ends it, if nobody has waited for it."""
+        """Ends the check, if its end wasn't waited for."""
         if self.running is not None:
             self.running.end()
             self.running = None

@@ -58,7 +58,7 @@ class Corner:
         return (other if one in partners else one, one if other in partners else other)
 
     def take(self, happening):
-        """Takes over a frame or a download."""
+        """Processes a frame or a download."""
         if isinstance(happening, Ended):
             self.cabinet.ended(happening.load)
         if isinstance(happening, Frame):
@@ -67,7 +67,7 @@ class Corner:
                 self.show(way, happening.vehicles[phase - 1], happening.tick)
 
     def follow(self, frame):
-        """Takes over the coordinated phases of the pattern that runs, and how its cycle runs."""
+        """Processes the coordinated phases of the pattern that runs, and its cycle."""
         mode = mode_of(frame.mode)
         plan = self.cabinet.plan(mode.number) if mode.letter in "CK" else None
         if plan and frame.tick <= self.end:

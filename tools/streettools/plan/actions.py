@@ -170,8 +170,8 @@ def draw(words: argparse.Namespace) -> int:
 
 
 def do_explain(words: argparse.Namespace) -> int:
-    """Tells what a line of the program says; or, of standard input, what each of its lines says. Lines that are none of
-    the program's go on to standard error as they are."""
+    """Prints the meaning of a line of the program, or of each line of standard input. Lines that aren't the program's
+    go to standard error as they are."""
     source = sources.load(words.file, words.names)
     if words.line != "-":
         print("\n".join(explain.explained(source, words.line.strip())))
@@ -286,7 +286,7 @@ def do_loads(words: argparse.Namespace) -> int:
 
 
 def do_sets(words: argparse.Namespace, old: Street, new: Street, found: list[dict[str, Any]]) -> int:
-    """Says what devices get, and sends it if that is asked for."""
+    """Prints what devices get, and sends it if that is asked for."""
     from . import addresses, live, sending  # here, since they take a while
 
     loads_here = sending.loads_of(old, new, found, addresses.places_of(words.sets, len(new.scenario["cabinets"])))

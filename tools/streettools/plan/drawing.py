@@ -1,6 +1,6 @@
 """Rings and barriers as drawn: `rings = ["1 2 | 3 4", "5 6 | 7 8"]`, a line for each ring, a bar for each barrier.
 
-A side with no phase in a ring (`-`) gets a partner there: a phase that the rings need and that nobody calls.
+A side with no phase in a ring (`-`) gets a partner there: a phase that the rings need and that is never called.
 """
 
 from collections.abc import Collection

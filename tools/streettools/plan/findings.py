@@ -14,7 +14,7 @@ class Level(enum.Enum):
     ERROR = "error"
     """The program refuses it, or a sheet isn't accepted."""
     WARNING = "warning"
-    """The program takes it; hardly anybody means it."""
+    """The program accepts it, but it is hardly ever meant."""
     NOTE = "note"
     """Something to know."""
 

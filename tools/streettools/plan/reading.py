@@ -174,7 +174,7 @@ def respond_of(top: Given) -> dict[str, Any] | None:
 
 
 def read_events(top: Given, scenario: dict[str, Any], names: list[str]) -> list | None:
-    """Takes up what comes in round by round, which a sheet has as a scenario has it, or with times of day and names of
+    """Reads what arrives round by round, which a sheet has in the form of a scenario, or with times of day and names of
     intersections; returns the pulses of detectors."""
     it = top.below("events")
     it.allow((*LISTS, "pulses"))
@@ -187,7 +187,7 @@ def read_events(top: Given, scenario: dict[str, Any], names: list[str]) -> list 
 
 
 def read_days(top: Given, street: Street, schedule: list[dict] | None) -> None:
-    """Takes up the day plans, of which a scenario has one: the first where no date is said."""
+    """Reads the day plans, of which a scenario has one: the first if no date is given."""
     street.day_plans = days.read(top, read_schedule)
     if street.day_plans and schedule is not None:
         top.fault("day plans have schedules of their own, so this one holds on no day", "schedule")

@@ -1,7 +1,7 @@
-"""Puts new tables into devices by SNMP: each intersection's own, where its device is.
+"""Puts new tables into devices by SNMP: each intersection's own into its device.
 
-First every device is read. Nothing is set where one of them isn't the intersection's: where it has another name, where
-its tables aren't those of the old plan, or where nothing tells it from the device of another intersection. Then each
+First every device is read. Nothing is set if one of them isn't the intersection's: if it has another name, if its
+tables aren't those of the old plan, or if nothing distinguishes it from the device of another intersection. Then each
 download is sent, and read back.
 """
 

@@ -49,8 +49,8 @@ Row = dict[str, Entry]
 @dataclass
 class Utdf:
     """Sections by name, each with its records; a record has the names of the header. `strange` are lines of sections
-    that aren't known, `faults` the fields that can't be read, `interval` the minutes of a count, `notes` what was noted
-    of the whole file."""
+    that aren't known, `faults` the fields that can't be read, `interval` the minutes of a count, `notes` are notes on
+    the whole file."""
 
     sections: dict[str, list[Row]] = field(default_factory=dict)
     strange: list[str] = field(default_factory=list)

@@ -45,7 +45,7 @@ SUBJECTS = {
 
 
 def entries(text: str) -> Iterator[tuple[Name, str]]:
-    """Yields each object of a walk with the text of its value, which may go on over several lines."""
+    """Yields each object of a walk with the text of its value, which may continue over several lines."""
     name, value = None, ""
     for line in text.splitlines(keepends=True):
         found = LINE.fullmatch(line.rstrip("\r\n"))

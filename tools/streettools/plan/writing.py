@@ -72,8 +72,7 @@ def say_cell(sheet: dict[str, Any], tables: Tables, cell: tuple) -> None:
 
 
 def say_options(row: dict[str, Any], options: int, usual: int) -> None:
-    """Says those options of a phase that differ from the usual ones; all of them where there is nothing to differ
-    from."""
+    """Writes those options of a phase that differ from the usual ones; all of them if there are no usual ones."""
     for name in fields.OPTIONS:
         now = fields.show_option(name, options)
         if now != fields.show_option(name, usual):
@@ -81,8 +80,8 @@ def say_options(row: dict[str, Any], options: int, usual: int) -> None:
 
 
 def say_split(row: dict[str, Any], usual: Tables, tables: Tables, number: int, partners: Collection[int]) -> None:
-    """Says a split: the times of all enabled phases where one differs, the coordinated phases, modes that differ;
-    nothing of partners."""
+    """Writes a split: the times of all enabled phases if one differs, the coordinated phases, modes that differ;
+    partners are left out."""
     enabled = set(tables.enabled())
     times = {phase: value(tables, ("split", number, phase, 3)) for phase in ALL}
     before = {phase: value(usual, ("split", number, phase, 3)) for phase in ALL}
@@ -138,7 +137,7 @@ def say_pattern(row: dict[str, Any], usual: Tables, tables: Tables, number: int)
 
 
 def say_sequences(sheet: dict[str, Any], usual: Tables, tables: Tables) -> None:
-    """Says the orders of the rings that differ."""
+    """Writes the orders of the rings that differ."""
     for number in SEQUENCES:
         rings = [value(tables, ("sequence", number, ring)) for ring in (1, 2)]
         if rings != [value(usual, ("sequence", number, ring)) for ring in (1, 2)]:

@@ -1,4 +1,4 @@
-"""What a cabinet's reply tells of the orders in it: a clock that was set, a priority request that was given or
+"""What a cabinet's reply says of the orders in it: a clock that was set, a priority request that was given or
 cancelled; and a Set that was refused.
 
 A reply repeats the bindings of a Set (RFC 1157), so an accepted order is in a reply of status 0. A reply to a Get also

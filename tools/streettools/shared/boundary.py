@@ -1,4 +1,4 @@
-"""The boundary of a tool: whatever a command raises ends as lines on standard error and an exit status."""
+"""The boundary of a tool: any exception of a command becomes lines on standard error and an exit status."""
 
 import os
 import sys
@@ -34,7 +34,7 @@ def bounded(tool: str, does: Callable[[list[str]], int], words: list[str]) -> in
 
 
 def ended(tool: str, fault: BaseException) -> Status | int:
-    """Says what went wrong, and returns the exit status that goes with it."""
+    """Prints what went wrong, and returns its exit status."""
     if isinstance(fault, KeyboardInterrupt):
         drop_output()
         return Status.INTERRUPTED

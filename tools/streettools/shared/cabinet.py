@@ -1,4 +1,4 @@
-"""What a trace tells of one cabinet as it goes on: tables in force, detectors, cycles of a pattern, how each green
+"""What a trace says of one cabinet as it is read: tables in force, detectors, cycles of a pattern, how each green
 ended."""
 
 from functools import lru_cache
@@ -65,8 +65,8 @@ class Cycle(NamedTuple):
 
 
 def changed_elsewhere(scenario: dict[str, Any], number: int) -> bool:
-    """Returns whether tables may be changed by other than the scenario's downloads as they are written: by octets of
-    management software, or by a fault that flips an octet of a download."""
+    """Returns whether tables may be changed by anything except the scenario's downloads as they are written: by octets
+    of management software, or by a fault that flips an octet of a download."""
     flips = any(
         it["cabinet"] == number and it["kind"] == "flip" and it["stream"] == "load" and it["way"] == "down"
         for it in scenario.get("faults", ())
@@ -126,7 +126,7 @@ class Cabinet:
             self.active[item.number] = max(self.active[item.number], item.tick)
 
     def shown(self, frame: Frame) -> None:
-        """Takes over a frame."""
+        """Processes a frame."""
         before = self.frame.vehicles if self.frame else "R" * 16
         for phase, _, shows in changes(before, frame.vehicles):
             if shows == "G":
@@ -134,7 +134,7 @@ class Cabinet:
         self.frame = frame
 
     def cycle(self, frame: Frame) -> Cycle | None:
-        """Returns the cycle that begins with this frame, which isn't taken over yet; None if none does."""
+        """Returns the cycle that begins with this frame, which isn't processed yet; None if none does."""
         mode, before = mode_of(frame.mode), self.frame
         if mode.letter != "C" or frame.counter != 0 or before is None:
             return None
@@ -196,7 +196,7 @@ class Cabinet:
         return bool(quiet >= max(1, self.tables.phase(phase, 5)))
 
     def ending(self, phase: int, frame: Frame) -> str:
-        """Returns how the green of a phase ends with this frame, which isn't taken over yet."""
+        """Returns how the green of a phase ends with this frame, which isn't processed yet."""
         mode = mode_of(frame.mode)
         if mode.letter != "F" and mode.letter != "C":
             return mode.words

@@ -11,7 +11,7 @@ Path = str | os.PathLike[str]
 
 @contextlib.contextmanager
 def blamed(path: Path, *names: str) -> Iterator[None]:
-    """Lets a fault in writing, which tells no file or one of these names, tell `path`."""
+    """Makes a fault in writing name `path`, if it names no file or one of these names."""
     try:
         yield
     except OSError as fault:
@@ -52,8 +52,8 @@ def whole(path: Path, is_private: bool = False) -> Iterator[str]:
 
 @contextlib.contextmanager
 def output(path: Path | None) -> Iterator[TextIO]:
-    """Gives a text to write to: a file that is written whole, or standard output where none is named. A fault in
-    writing tells which."""
+    """Gives a text to write to: a file that is written whole, or standard output if `path` is None. A fault in writing
+    says which."""
     if path is None:
         with blamed("standard output"):
             yield sys.stdout

@@ -1,6 +1,6 @@
 """Files in TOML, and what their tables say: each name once, each of its kind, and no other names.
 
-A table is read in one of two ways: the first fault is raised, or all faults are collected and reading goes on."""
+A table is read in one of two ways: the first fault is raised, or all faults are collected and reading continues."""
 
 import difflib
 import math
@@ -120,7 +120,7 @@ class Given:
     others.
 
     Without `faults` the first fault is raised, with its path, as `vary[0].name`. With `faults` each one is added there,
-    with its place in words, as `intersection 2, phase 4`, and reading goes on."""
+    with its place in words, as `intersection 2, phase 4`, and reading continues."""
 
     def __init__(self, table: Any, file: str = "", place: str = "", faults: list[Defect] | None = None) -> None:
         self.file, self.place, self.faults = file, place, faults
@@ -282,5 +282,5 @@ class Given:
                 self.fault("is unknown" + hint, name)
 
     def end(self) -> None:
-        """Refuses names that nobody asked for."""
+        """Refuses names that weren't asked for."""
         self.allow(self.known)

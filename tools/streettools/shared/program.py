@@ -166,7 +166,7 @@ def one_line(octets: bytes) -> str:
 
 
 def end_group(pid: int) -> None:
-    """Ends a program that `Running` or `live_in_loop` started and that nobody has waited for, with all it started."""
+    """Ends a program that `Running` or `live_in_loop` started and whose end wasn't waited for, with all it started."""
     import signal
 
     with contextlib.suppress(ProcessLookupError, PermissionError):

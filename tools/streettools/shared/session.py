@@ -40,7 +40,7 @@ def refusal(answer: Answer) -> bytes | None:
 
 
 class Answers:
-    """Parts what the program writes into answers, in whatever pieces it comes."""
+    """Splits what the program writes, in pieces of any size, into answers."""
 
     def __init__(self) -> None:
         self.lines: Answer = []

@@ -93,7 +93,7 @@ class CabinetRound:
         self.answers.reverse()
 
     def before(self, tick: int) -> list[Input]:
-        """Returns the inputs that came before this tick, which are taken off."""
+        """Removes the inputs that came before this tick, and returns them."""
         found = []
         while self.inputs and self.inputs[-1].tick < tick:
             found.append(self.inputs.pop())

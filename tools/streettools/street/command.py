@@ -124,7 +124,7 @@ def street_of(given: argparse.Namespace, hearers: list[Hearer]) -> tuple[Street,
 
 
 def tell_places(street: Street, places: list[ports.Place]) -> None:
-    """Says where the cabinets answer."""
+    """Prints where the cabinets answer."""
     community, count = street.community().decode(), len(places)
     where = f"{places[0]}" if count == 1 else f"{places[0]} to {places[-1]}"
     say(f"{count} cabinet{'s'[: count - 1]} answer{'s'[: count == 1]} at {where}, community {community}")

@@ -1,6 +1,6 @@
-"""What messages have told each cabinet that can't be read from it: the number of its last download, and the date.
+"""What messages have set in each cabinet, but can't be read from it: the number of its last download, and the date.
 
-Both hear every request with its answer, as the inputs do, so that a record that is replayed tells them the same.
+Both hear every request with its answer, as the inputs do, so that the replay of a record gives them the same.
 """
 
 import calendar

@@ -1,4 +1,4 @@
-"""How time goes on: by a clock that nobody sets, at some speed, or by steps."""
+"""How time advances: by a monotonic clock, at some speed, or by steps."""
 
 import time
 from collections.abc import Callable
@@ -33,7 +33,7 @@ class Pace:
         return (1 - self.rest) / (TICKS_A_SECOND * self.speed) if self.speed else 0.25
 
     def restart(self) -> None:
-        """Lets time go on from now; what went by before makes nothing due."""
+        """Lets time advance from now; the time before makes no tick pending."""
         self.since = self.now()
 
     def set(self, speed: float) -> None:

@@ -99,7 +99,7 @@ class Wire:
         self.waiting = 0
 
     def passes(self, way: str, cabinet: int, manager: Manager, octets: bytes, arrives: Callable[[bytes], None]) -> None:
-        """Lets a datagram go over the line, and gives what arrives of it."""
+        """Sends a datagram over the line, and gives what arrives of it."""
         for copy in self.line.passed(cabinet, way, octets) if self.line else [Copy(0.0, octets, ())]:
             is_lost = copy.seconds == math.inf or copy.seconds > 0 and self.waiting >= MOST_LATE
             if self.keep:
@@ -167,7 +167,7 @@ class Agent(asyncio.DatagramProtocol):
 async def listening(
     sockets: list[socket.socket], asked: Asked, wire: Wire | None = None
 ) -> list[asyncio.BaseTransport]:
-    """Lets the agent of each cabinet answer at its socket."""
+    """Makes the agent of each cabinet answer at its socket."""
     loop = asyncio.get_running_loop()
     made = [
         await loop.create_datagram_endpoint(functools.partial(Agent, number, asked, wire), sock=sock.dup())

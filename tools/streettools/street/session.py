@@ -153,8 +153,8 @@ class Session:
             count -= now
 
     async def read(self) -> None:
-        """Gives each answer to the request that waits for it, until the program ends. A fault of one who hears of an
-        answer ends the program, and is raised; no request waits any longer then."""
+        """Gives each answer to the request that waits for it, until the program ends. A fault of a hearer of an answer
+        ends the program, and is raised; then no request waits any longer."""
         answers, watch = Answers(), asyncio.create_task(self.watch())
         try:
             while octets := await self.answers.read(PIECE):
@@ -187,7 +187,7 @@ class Session:
             end_group(self.process.pid)
 
     def give_up(self, asked: "collections.deque[Asked]") -> None:
-        """Says of requests that the session is over."""
+        """Fails the requests, since the session is over."""
         while asked:
             answer = asked.popleft().answer
             if not answer.done():

@@ -1,7 +1,7 @@
-"""The street: a session that goes on by a pace, what comes to it, and who hears of it.
+"""The street: a session that advances by a pace, what it receives, and its hearers.
 
-Where a session is over, a new one begins with start-up: after the last round that a scenario may have, and where a
-record is full.
+When a session is over, a new one begins with start-up: after the last round that a scenario may have, and when a record
+is full.
 """
 
 import asyncio
@@ -120,7 +120,7 @@ class Street:
         return given.encode()
 
     def heard(self, request: bytes | None, answer: Answer) -> None:
-        """Lets all hear of an answer; a fault of one of them names it."""
+        """Gives an answer to all hearers; a fault of one of them names it."""
         self.inputs.heard(request, answer)
         self.downloads.heard(request, answer)
         self.clocks.heard(request, answer)
@@ -228,8 +228,8 @@ class Street:
         return MOST_TICKS if self.stops_at_end else max(0, total - min(total // 4, SPARE) - self.session.taken)
 
     async def change(self) -> None:
-        """Ends a session, so that the next one goes on with what the cabinets have; messages wait meanwhile. Where that
-        can't be read the next one begins as the first did."""
+        """Ends a session, so that the next one continues with what the cabinets have; messages wait meanwhile. If that
+        can't be read, the next one begins as the first did."""
         self.changing = asyncio.get_running_loop().create_future()
         while self.turns:
             await asyncio.sleep(0.001)
@@ -262,7 +262,7 @@ class Street:
         self.wake()
 
     def fail(self, fault: Exception) -> None:
-        """Lets the street end with a fault, the first one if there are several."""
+        """Ends the street with a fault, the first one if there are several."""
         self.fault = self.fault or fault
         self.end()
 
@@ -311,7 +311,7 @@ async def fault_of(done: Awaitable[None]) -> Exception | None:
 
 @contextlib.contextmanager
 def failing(hearer: Hearer) -> Iterator[None]:
-    """Lets a fault of a hearer that names no file name the hearer."""
+    """Makes a fault of a hearer that names no file name the hearer."""
     try:
         yield
     except (OSError, Fault):

@@ -28,7 +28,7 @@ class Parcel:
         self.work: Any = None
 
     def setup(self, worker: Any) -> None:
-        """Takes up the sweep on a worker of Dask."""
+        """Prepares the sweep on a worker of Dask."""
         self.write(pathlib.Path(worker.local_directory) / self.name)
         self.start()
 

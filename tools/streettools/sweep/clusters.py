@@ -34,7 +34,7 @@ def distributed() -> Any:
 
 @dataclass(frozen=True)
 class Papers:
-    """The files by which both ends of each connection know each other: the certificate of who signs, and the own
+    """The files by which both ends of each connection know each other: the certificate of the signer, and the own
     certificate with its key."""
 
     authority: Path

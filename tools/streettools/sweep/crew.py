@@ -38,7 +38,7 @@ class Crew(abc.ABC):
 
     @abc.abstractmethod
     def take_up(self, parcel: Parcel) -> None:
-        """Lets the workers take up a sweep."""
+        """Prepares the sweep on the workers."""
 
     @abc.abstractmethod
     def count(self) -> int:

@@ -144,7 +144,7 @@ def tell(outcomes: Counter[str], first: dict[str, str], before: int, seconds: fl
 
 
 def count(words: argparse.Namespace) -> int:
-    """Says how many runs a study makes, and of what."""
+    """Prints how many runs a study makes, and their parameters."""
     ready = opened(words).ready
     parts = [
         f"{it.name} {it.values.count() if it.values.steps is None or it.values.kind.value == 'range' else 'random'}"

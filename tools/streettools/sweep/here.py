@@ -1,4 +1,4 @@
-"""Workers on this machine: processes that talk with the sweep over pipes, which nobody else can open."""
+"""Workers on this machine: processes that communicate with the sweep over pipes, which no other process can open."""
 
 import contextlib
 import multiprocessing
@@ -40,7 +40,7 @@ class Died(Exception):
 
 
 class Unable(Exception):
-    """A worker can't take up the sweep, or go on with it, in words."""
+    """A worker can't prepare the sweep, or can't continue; the words say why."""
 
 
 def serve(pipe: Connection, parcel: Parcel) -> None:
@@ -60,7 +60,8 @@ def serve(pipe: Connection, parcel: Parcel) -> None:
 
 @contextlib.contextmanager
 def without_interrupts() -> Iterator[None]:
-    """Lets a process start that takes no Ctrl-C, nor do those that it starts: the sweep takes it, and ends them."""
+    """Makes processes that start in the block ignore Ctrl-C, as do those that they start: the sweep handles it, and
+    ends them."""
     resource_tracker.ensure_running()
     before = signal.pthread_sigmask(signal.SIG_BLOCK, [signal.SIGINT])
     try:

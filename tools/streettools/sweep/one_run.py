@@ -230,7 +230,7 @@ class Runner:
         return street
 
     def follow(self, trace: BinaryIO, tallies: dict[int, CabinetTally]) -> None:
-        """Lets the cabinets take what happened in a run."""
+        """Passes what happened in a run to the cabinets."""
         shown = {b"%d" % number: it.shown for number, it in tallies.items()}
         for it in trace_rows.happenings(trace):
             if isinstance(it, trace_rows.Over):

@@ -48,13 +48,13 @@ class PhaseTally:
         self.is_walk = self.is_lock = self.can_walk = False
 
     def follows(self, tables: Tables, phase: int) -> None:
-        """Takes over what tables say of its calls."""
+        """Takes over the settings of its calls from tables."""
         self.is_lock = not tables.option(phase, NON_LOCK)
         self.can_walk = tables.phase(phase, 2) > 0
 
     def sensed(self, until: int) -> None:
-        """Takes the vehicle inputs that come before a tick: where the phase isn't green a call begins with the first
-        that goes on; without lock memory it ends as the detector goes off."""
+        """Processes the vehicle inputs that come before a tick. If the phase isn't green, a call begins with the first
+        that turns on; without lock memory it ends as the detector turns off."""
         detector = self.detector
         first = detector.place
         detector.place = bisect_left(detector.ticks, until, first)
@@ -138,7 +138,7 @@ class CabinetTally:
         self.failed: int | None = None
 
     def follows_tables(self) -> None:
-        """Takes over what the tables in force say of calls."""
+        """Takes over the settings of calls from the tables in force."""
         for phase, tally in self.phases.items():
             tally.follows(self.cabinet.tables, phase)
 

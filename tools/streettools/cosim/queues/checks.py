@@ -1,4 +1,4 @@
-"""What volumes must keep to fit a scenario: each movement has a phase that is there, each phase has somebody."""
+"""What volumes must keep to fit a scenario: each movement has an existing phase, each phase has traffic."""
 
 import difflib
 from typing import Any
@@ -71,7 +71,7 @@ def told(it: Flow | Crossing) -> str:
 
 
 def phases_are_served(volumes: Volumes, tables: dict[int, Tables]) -> None:
-    """Refuses a phase that serves nobody."""
+    """Refuses a phase without traffic."""
     served = {(it.cabinet, it.phase) for it in all_of(volumes)} | volumes.idle
     for cabinet, table in tables.items():
         for phase in table.enabled():

@@ -122,9 +122,8 @@ class Network:
 
 
 def travel(draw: random.Random, onward: Onward) -> float:
-    """Returns how long a vehicle drives to the next stop line, by Robertson's dispersion: nobody is faster than
-    1 / (1 + dispersion) of the time of travel, and what comes beyond that is exponential, with the time of travel as
-    the mean."""
+    """Returns how long a vehicle drives to the next stop line, by Robertson's dispersion: the shortest time is 1 / (1 +
+    dispersion) of the time of travel, and the rest is exponential, with the time of travel as the mean."""
     factor = onward.dispersion / (1.0 + onward.dispersion)
     return onward.travel * (1.0 - factor - factor * math.log(1.0 - draw.random()))
 

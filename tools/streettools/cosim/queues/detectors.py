@@ -1,4 +1,5 @@
-"""What the detectors of a street tell its cabinets: calls by phase, from those who wait and those who drive by."""
+"""What the detectors of a street report to its cabinets: calls by phase, from vehicles that wait and vehicles that
+pass."""
 
 from .lines import StopLine
 from .volumes import Flow
@@ -19,14 +20,14 @@ class PhaseDetectors:
         self.lines: list[tuple[StopLine, int]] = []
         """Queues that are seen, each with the number of vehicles from which it is."""
         self.until = self.seen = -1.0
-        """Up to when those who drive by are on a detector; the last second at which one was."""
+        """Until when vehicles that pass are on a detector; the last second at which one was."""
         self.is_on = False
         self.is_awake = False
-        """Whether there may be something to tell: somebody came or passed since the last look, or drives over it."""
+        """Whether something may have changed: a vehicle came or passed since the last look, or drives over it."""
 
     def watch(self, flow: Flow, line: StopLine) -> None:
-        """Adds the detectors of a movement: one at the stop line sees whoever waits, one further up sees a queue that
-        reaches it."""
+        """Adds the detectors of a movement: one at the stop line sees vehicles that wait, one further up sees a queue
+        that reaches it."""
         if flow.detectors.stop:
             self.lines.append((line, 1))
         elif flow.detectors.ahead:

@@ -17,7 +17,7 @@ from .yielding import gives_way
 from ..records import Kind, Movement, Passage, Study, Trip, queue_samples
 
 STOPPED = 2.0
-"""Who waits as long as this has stopped; who waits less has slowed down."""
+"""A vehicle that waits as long as this has stopped; one that waits less has slowed down."""
 MOST_TICKS, MOST_ROUNDS = 55_296_000, 86_400
 
 

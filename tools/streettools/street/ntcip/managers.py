@@ -1,7 +1,8 @@
-"""Who holds the transaction of a cabinet, who has lost one, and what the Sets of transactions were answered.
+"""Which manager holds the transaction of a cabinet, which have lost one, and how the Sets of transactions were
+answered.
 
 A manager is an address and a port. Tools that take a new port for each message are known by their address only: a
-message from a new port of the address that holds the transaction is taken for one of the same manager.
+message from a new port of the address that holds the transaction counts as one of the same manager.
 """
 
 import collections

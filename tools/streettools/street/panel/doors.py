@@ -91,7 +91,7 @@ class Connection(web.RequestHandler):
 
 
 def said_once(loop: asyncio.AbstractEventLoop, context: dict[str, Any]) -> None:
-    """Handles a fault in an event loop that nobody takes: that no more files can be opened is said once."""
+    """Handles an unhandled fault of an event loop: that no more files can be opened is printed once."""
     if getattr(context.get("exception"), "errno", None) not in NO_FILES:
         loop.default_exception_handler(context)
     else:
@@ -100,5 +100,5 @@ def said_once(loop: asyncio.AbstractEventLoop, context: dict[str, Any]) -> None:
 
 @functools.cache
 def say_no_files() -> None:
-    """Says that no more files can be opened."""
+    """Prints that no more files can be opened."""
     saying.say("street", "too many files are open: the panel takes no connection until some are closed")

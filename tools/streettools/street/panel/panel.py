@@ -50,7 +50,7 @@ class Page:
         self.dropping: asyncio.Task[bool] | None = None
 
     def tell(self, text: str) -> None:
-        """Lets a text wait for the page; one that doesn't read is dropped."""
+        """Queues a text for the page; a page that doesn't read is dropped."""
         try:
             self.waiting.put_nowait(text)
         except asyncio.QueueFull:
@@ -200,7 +200,7 @@ class Panel(Hearer):
                     await self.lay_out(cabinet)
 
     async def lay_out(self, cabinet: int) -> None:
-        """Lays a cabinet out by the tables in force, and tells pages."""
+        """Draws the layout of a cabinet by the tables in force, and sends it to pages."""
 
         async def asked(names: list[in_force.Name]) -> in_force.Values | None:
             reply = await self.got(cabinet, names)

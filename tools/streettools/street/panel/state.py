@@ -43,7 +43,7 @@ class Shown:
     changed: int = 0
 
     def take(self, words: list[str]) -> None:
-        """Takes over a frame line, by its words after the cabinet."""
+        """Processes a frame line, by its words after the cabinet."""
         tick, vehicles, pedestrians = int(words[0]), words[1], words[2]
         for at in range(16):
             if vehicles[at] != self.vehicles[at]:
@@ -121,8 +121,7 @@ class PanelState(Hearer):
         self.asked.append((self.ticks, cabinet, octets, reply))
 
     async def put_in_words(self) -> None:
-        """Puts the messages that came into words, one after another: whatever else is to be done goes before the
-        next."""
+        """Puts the messages that came into words, one after another; other pending work goes before the next."""
         while self.asked:
             row = message_row(*self.asked.popleft())
             self.change += 1
@@ -164,7 +163,7 @@ class PanelState(Hearer):
 
     async def greens(self) -> str:
         """Returns the greens of each cabinet's coordinated phases that are over and not long ago, as JSON. They are put
-        together cabinet by cabinet: whatever else is to be done goes before the next."""
+        together cabinet by cabinet; other pending work goes before the next."""
         parts = []
         for number, (shown, facts) in enumerate(zip(self.cabinets, self.facts), 1):
             wanted = {p for laid in facts["patterns"].values() for p in laid["coordinated"]}
