@@ -55,7 +55,7 @@ def in_a_row(holds: list[bool], number: int) -> int:
 
 
 def rows_of(holds: list[bool]) -> list[int]:
-    """Returns `in_a_row` of each round; one more than in the round before where it holds."""
+    """Returns `in_a_row` of each round; if it holds, one more than in the round before."""
     counts = [0]
     for held in holds[1:]:
         counts.append(counts[-1] + 1 if held else 0)

@@ -18,7 +18,7 @@ class Unreadable(Exception):
 
 
 def demand(holds: bool) -> None:
-    """Gives up where something that must hold doesn't."""
+    """Raises Unreadable if a condition doesn't hold."""
     if not holds:
         raise Unreadable
 

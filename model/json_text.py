@@ -1,8 +1,8 @@
 """JSON texts: how they are read, and the compact text of a value.
 
-RFC 8259; docs/SCENARIO.md, "What is refused, and how". A number is whole where it is written without fraction and
-exponent, isn't `-0` and has at most 64 bits; every other number is of another kind. Lists and objects may be 127
-deep. Of two equal names the last counts.
+RFC 8259; docs/SCENARIO.md, "What is refused, and how". A number is whole if it is written without fraction and
+exponent, isn't `-0` and has at most 64 bits; every other number is of another kind. Lists and objects may be 127 deep.
+Of duplicate names the last counts.
 """
 
 import json

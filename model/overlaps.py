@@ -55,7 +55,7 @@ def shown_after(shown: list[Colour], green: list[bool], told: Overlaps) -> Colou
 
 
 def checked(data: bytes, told: Overlaps) -> list[Moment]:
-    """Returns the moments of the cabinet in a trace, where the overlap breaks no rule."""
+    """Returns the moments of the cabinet in a trace, if the overlap breaks no rule."""
     run = check(data)
     if told.cabinet > len(run.cabinets):
         raise OverlapFault(1, 0)

@@ -89,9 +89,9 @@ class Past:
         return self.moments[-1]
 
     def thin(self) -> None:
-        """Puts in place of the moment before the last one the one before that, where both show the same: the tables of
-        a colour or a signal are read of the moment with which it began. A past that is thinned takes no memory for what
-        stays the same."""
+        """Replaces the moment before the last one by the one before that, if both show the same: the tables of a colour
+        or a signal are read from the moment with which it began. A past that is thinned takes no memory for what stays
+        the same."""
         if len(self.moments) < 3:
             return
         one, two = (it.frame for it in self.moments[-3:-1])

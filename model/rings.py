@@ -1,7 +1,7 @@
 """What the two rings end and begin in free operation and coordinated by a pattern.
 
 docs/DEFINITIONS.md, "A tick: rings" and "A tick: coordination"; docs/DEFINITIONS.md has the plan of the standard
-pattern. A phase is wanted with k where it has demand and, with a pattern, room for its service after k ticks more.
+pattern. A phase is wanted with k if it has demand and, with a pattern, room for its service after k ticks more.
 """
 
 import functools
@@ -88,8 +88,8 @@ class Rings:
         return sides.side(self.tables, p) if p else sides.sides_in_order(self.tables, self.sequence)[-1]
 
     def later(self, ring: int) -> list[int]:
-        """Returns the phases of a ring in the present side that come after the one last on in it; all where that was
-        of another side."""
+        """Returns the phases of a ring in the present side that come after the one last on in it; all if that was of
+        another side."""
         own = sides.ring_phases(self.tables, self.sequence, ring, self.side)
         last = self.past.last.last_on.get(ring)
         return own[own.index(last) + 1 :] if last in own else own
@@ -111,8 +111,8 @@ class Rings:
         return self.plan.window <= self.counter
 
     def too_few(self, p: int, k: int) -> int:
-        """Returns how many ticks are missing before the force point of a phase for its service after k ticks more;
-        none are where it is 0 or less."""
+        """Returns how many ticks are missing before the force point of a phase for its service after k ticks more; none
+        are missing if the number is 0 or less."""
         return self.counter + k + self.row[p].least_service - self.plan.force[p]
 
     def is_wanted(self, p: int, k: int) -> bool:

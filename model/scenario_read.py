@@ -1,4 +1,4 @@
-"""How a scenario is read from its text; its first fault where it is none.
+"""How a scenario is read from its text; its first fault if it isn't one.
 
 docs/SCENARIO.md, "Names" and "What is refused, and how".
 """

@@ -1,6 +1,6 @@
-"""When a cabinet is disturbed: the ticks at which another pattern comes into command, tables come, the clock is set to
-another time or passes midnight where the cycle doesn't divide the day, or the mode is start-up, flash, the way to it,
-or a preempt's.
+"""When a cabinet is disturbed: the ticks at which another pattern comes into command, tables come into force, the clock
+is set to another time or passes midnight (if the cycle doesn't divide the day), or the mode is start-up, flash, the way
+to it, or a preempt's.
 
 docs/DEFINITIONS.md, "What coordination promises, left undisturbed".
 """

@@ -1,6 +1,6 @@
-"""Each clearance lasts exactly its time, by the tables that were in force as it began; a green lasts its least, and
-a walk with its clearance exactly, or no less than what the stage of a preempt leaves of them where it makes way for
-that."""
+"""Each clearance lasts exactly its time, by the tables that were in force as it began. A green lasts at least its
+minimum, and a walk with its clearance exactly its time. If the phase makes way for a preempt, each lasts no less than
+the preempt's stage leaves of it."""
 
 from collections.abc import Iterator
 from dataclasses import dataclass

@@ -156,7 +156,7 @@ class Lines:
         return words
 
     def may(self, kind: str, *more: str) -> list[str] | None:
-        """Takes the next line where it begins with these words."""
+        """Takes the next line if it begins with these words."""
         try:
             return self.words(kind, *more)
         except Untold:

@@ -74,7 +74,7 @@ class Compass:
             self.turns[it.start].add(it.turn)
 
     def straight(self, way: int) -> int | None:
-        """Returns the phase that drives a way: where its own isn't enabled, that of the opposite way."""
+        """Returns the phase that drives a way: if its own isn't enabled, that of the opposite way."""
         own = (STRAIGHT_PHASES[(way - self.main + turned) % 4] for turned in (0, 2))
         return next((it for it in own if it in self.enabled), None)
 

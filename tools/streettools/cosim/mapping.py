@@ -92,7 +92,7 @@ class MappedBus:
 @dataclass(frozen=True)
 class MappedPreempt:
     """A preempt's input: on while a vehicle of these classes or types is on one of these edges, or within `ahead`
-    metres before a stop line of the cabinet, on a way that one of `phases` serves (any, where none are named)."""
+    metres before a stop line of the cabinet, on a way that one of `phases` serves (any, if none are named)."""
 
     cabinet: int
     number: int

@@ -156,7 +156,7 @@ def counted_trips(study: Study) -> list[Trip]:
 
 
 def reached(trips: Iterable[Trip]) -> Iterator[tuple[Key, float]]:
-    """Yields each movement that a vehicle came to, with when; also the last one, where it waited at the end."""
+    """Yields each movement that a vehicle reached, with the time; also the last one, if it waited there at the end."""
     for trip in trips:
         for it in trip.passages:
             yield (it.cabinet, it.movement), it.arrived

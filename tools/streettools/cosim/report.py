@@ -92,7 +92,7 @@ def route_value(count: RouteCount) -> Value:
 
 
 def collect(study: Study, greens: Greens | None = None, more: More | None = None) -> Value:
-    """Returns the report; where no greens are given they come from the trace."""
+    """Returns the report; if no greens are given, they come from the trace."""
     more = more or More()
     found = counts(study, greens_in(study) if greens is None else greens)
     cabinets = {number: Count() for number in range(1, study.cabinets + 1)}

@@ -61,7 +61,7 @@ class Light:
 
 
 class Crossing(NamedTuple):
-    """Two links whose paths cross; where both have way one may yield, `g` to SUMO: which of them may, if any."""
+    """Two links whose paths cross, and which of them may yield (`g` to SUMO) when both have a green, if any."""
 
     a: Link
     b: Link
@@ -70,8 +70,8 @@ class Crossing(NamedTuple):
 
 
 class Watch:
-    """The look for two links whose paths cross and that both have way, by what SUMO has in force. A link may yield to
-    another only where SUMO lets it give way there, and where it has a phase under which it yields that may be on along
+    """The look for two links whose paths cross and that both have a green, by what SUMO has in force. A link may yield
+    to another only if SUMO lets it give way there, and if it has a phase under which it yields that may be on along
     with one of the other's (`may_yield`). Yellow yields as the green before it did."""
 
     def __init__(self, network: Network, signals: Iterable[str], may_yield: MayYield, sumo: Any) -> None:
@@ -106,7 +106,7 @@ class Watch:
                     self.judge(name, judged, second)
 
     def judge(self, name: str, state: str, second: float) -> None:
-        """Raises a conflict where a state has one."""
+        """Raises Fault if a state has a conflict."""
         for a, b, a_yields, b_yields in self.crossing[name]:
             one, other = state[a.index], state[b.index]
             if one in RED or other in RED or one in YIELDING and a_yields or other in YIELDING and b_yields:

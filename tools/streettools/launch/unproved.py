@@ -118,8 +118,7 @@ def answer(rt: str, arguments: list[str]) -> int:
 
 
 def written(output: bytes, status: int) -> int:
-    """Writes the program's output, and returns the exit status, which is that of a write fault where it can't be
-    written."""
+    """Writes the program's output, and returns the exit status: that of a write fault if it can't be written."""
     try:
         sys.stdout.buffer.write(output)
         sys.stdout.flush()

@@ -72,7 +72,7 @@ class Log:
                     self.ordered(order, happening.tick)
 
     def ordered(self, order, tick):
-        """Keeps a priority request that checks in, or out where it is cancelled."""
+        """Keeps a priority request that checks in, or out if it is cancelled."""
         match order:
             case Requested(number, departure):
                 self.departed(number, tick)
@@ -121,7 +121,7 @@ class Log:
             self.add(tick, PREEMPT_EXIT, before.number)
 
     def selected(self, pattern, tick):
-        """Keeps cycle, offset and splits of the pattern that is selected, in seconds, where they differ from those
+        """Keeps cycle, offset and splits of the pattern that is selected, in seconds, if they differ from those
         before."""
         tables = self.cabinet.tables
         if not self.cabinet.told:

@@ -89,7 +89,7 @@ def bar_of(stream):
 
 
 def text(name, is_twice):
-    """Opens a text, and returns it with what it is called: one that can be read twice where that is asked for."""
+    """Opens a text, and returns it with its name in messages; one that can be read twice if that is asked for."""
     try:
         source = Source(None if name == "-" else name)
     except OSError as fault:

@@ -43,7 +43,7 @@ def write_scenario(path: str | None, value: dict[str, Any]) -> None:
 
 
 def write_sheet(path: str | None, sheet: dict[str, Any]) -> None:
-    """Writes a sheet as TOML, or as a workbook where the file's name says so."""
+    """Writes a sheet as TOML, or as a workbook if the file's name says so."""
     if path and path.endswith(BOOK):
         from . import book  # here, since openpyxl takes a while
 
@@ -96,7 +96,7 @@ def to_sheet(words: argparse.Namespace) -> int:
 
 
 def do_check(words: argparse.Namespace) -> int:
-    """Tells all that is wrong with a file. The status is 2 where the program refuses it."""
+    """Prints all that is wrong with a file. The status is 2 if the program refuses it."""
     source = sources.load(words.file, words.names)
     found = check.findings(source, words.program)
     if words.json:
@@ -111,8 +111,8 @@ def do_check(words: argparse.Namespace) -> int:
 
 
 def do_fix(words: argparse.Namespace, source: Source, street: Street) -> None:
-    """Proposes the least change of splits for each pattern that breaks rule 17, 18 or 19; writes the street with it
-    where an output is named."""
+    """Proposes the least change of splits for each pattern that breaks rule 17, 18 or 19; writes the street with it if
+    an output is named."""
     from . import fix  # here, since numpy takes a while
 
     changes: list[tuple[int, fix.Change]] = []

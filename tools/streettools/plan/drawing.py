@@ -88,8 +88,8 @@ def free_number(near: tuple[int, ...], taken: set[int]) -> int:
 
 
 def with_partners(drawing: Drawing) -> tuple[Drawing, dict[int, int]]:
-    """Returns the drawing with partners where a ring has no phase on a side; and for each partner the phase that it is
-    like."""
+    """Returns the drawing with partners where a ring has no phase on a side, and for each partner the phase that it
+    copies."""
     taken = set(drawing.phases())
     partners: dict[int, int] = {}
     sides: list[Side] = []
@@ -107,8 +107,8 @@ def with_partners(drawing: Drawing) -> tuple[Drawing, dict[int, int]]:
 
 
 def apply(tables: Tables, drawing: Drawing) -> None:
-    """Puts rings, lists of concurrent phases, sequence 1 and what is enabled into standard tables. A list of the
-    standard table stays where it says the same. Where the rings aren't those of the standard table its pattern 1 is no
+    """Puts rings, lists of concurrent phases, sequence 1 and the enabled phases into standard tables. A list of the
+    standard table stays if it says the same. If the rings aren't those of the standard table, its pattern 1 is no
     longer defined."""
     drawn = set(drawing.phases())
     for phase in ALL:

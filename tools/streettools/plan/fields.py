@@ -60,7 +60,7 @@ def shown(number: float) -> str:
 
 @dataclass(frozen=True)
 class Time:
-    """A number, in seconds where it is a time."""
+    """A number, in seconds if it is a time."""
 
     column: int
     unit: Unit

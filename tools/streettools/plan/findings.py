@@ -32,8 +32,8 @@ class Rank(enum.Enum):
 
 @dataclass(frozen=True)
 class Finding:
-    """A finding: where, in words; and the rule, the program's line and the place in the file, where there are such. A
-    warning has a rank. `is_cause` says that errors may follow from it, so that it is shown before them."""
+    """A finding: where, in words; and the rule, the program's line and the place in the file, if there are any. A
+    warning has a rank. `is_cause` means that errors may follow from it, so that it is shown before them."""
 
     level: Level
     where: str

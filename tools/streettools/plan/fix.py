@@ -206,7 +206,8 @@ def refuse_shared(laid: Layout) -> None:
 
 
 def least_change(tables: Tables, pattern: int, known: Intersection) -> Change:
-    """Returns the least change of splits with which a pattern keeps rules 17 to 19; NoChange where there is none."""
+    """Returns the least change of splits with which a pattern keeps rules 17 to 19; raises NoChange if there is
+    none."""
     laid = Layout(tables, pattern)
     if not has_pair(tables, pattern):
         raise NoChange(f"pattern {pattern}: say first which phases it coordinates")

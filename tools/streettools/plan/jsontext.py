@@ -80,14 +80,14 @@ def decoded(content: bytes, replaced: bool = False) -> str:
 
 
 def whole(digits: str) -> int | float:
-    """Returns a number without a point; no whole number where 64 bits don't hold it, or where it is -0."""
+    """Returns a number without a point; it isn't a whole number if 64 bits don't hold it, or if it is -0."""
     if digits != "-0" and len(digits) <= 20 and -(2**63) <= int(digits) < 2**64:
         return int(digits)
     return float(digits) if len(digits) < 300 else math.inf
 
 
 def read(content: bytes) -> object:
-    """Returns the value of a text; NoJson where it has none."""
+    """Returns the value of a text; raises NoJson if it has none."""
     text = decoded(content)
     try:
         refuse_depth(text)

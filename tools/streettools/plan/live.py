@@ -51,11 +51,11 @@ class Agent:
         """How many datagrams came that were no answers to the questions."""
 
     def next_of(self, asked: list[Name]) -> Reply:
-        """Returns the answer to a GetNext with some names; Unreadable where none comes."""
+        """Returns the answer to a GetNext with some names; raises Unreadable if none comes."""
         return self.ask(GET_NEXT, [(name, None) for name in asked])
 
     def ask(self, kind: int, bindings: list[tuple[Name, int | bytes | None]]) -> Reply:
-        """Returns the answer to a question, or to a Set; Unreadable where none comes."""
+        """Returns the answer to a question, or to a Set; raises Unreadable if none comes."""
         self.number += 1
         octets = message(kind, self.number, bindings, self.community)
         for _ in range(TRIES):
@@ -88,7 +88,7 @@ class Agent:
 
 
 def address(host: str, anywhere: bool) -> str:
-    """Returns the address of a host, which must be this machine where nothing else is said."""
+    """Returns the address of a host, which by default must be this machine."""
     try:
         found = socket.gethostbyname(host)
     except (OSError, UnicodeError):

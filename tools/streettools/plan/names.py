@@ -50,7 +50,7 @@ class Intersection:
         return self.phases.get(number, Phase())
 
     def phase_name(self, number: int) -> str:
-        """Returns a phase with its name where it has one."""
+        """Returns a phase with its name if it has one."""
         name = self.phase(number).name
         return f"phase {number} ({name})" if name else f"phase {number}"
 

@@ -1,4 +1,4 @@
-"""Patterns and splits of a sheet: what it says, what is entered where it says nothing, and what partners get."""
+"""Patterns and splits of a sheet: what it says, the defaults for what it omits, and what partners get."""
 
 from collections.abc import Iterator
 
@@ -122,7 +122,7 @@ def read_pattern(it: Given, number: int, found: Read, used: dict[int, str]) -> N
 
 
 def in_seconds(it: Given) -> None:
-    """Keeps a fault where an offset is in per cent of the cycle, with its seconds, and drops it."""
+    """Keeps a fault if an offset is in per cent of the cycle, with its seconds, and drops it."""
     said, cycle = it.table.get("offset"), it.table.get("cycle")
     cent = fields.CENT.fullmatch(said) if isinstance(said, str) else None
     if cent and fields.is_number(cycle):

@@ -37,7 +37,7 @@ class Slot:
 
 
 def slots(tables: Tables, pattern: int) -> list[Slot]:
-    """Returns the slots of a pattern, or of the rings where no pattern is defined: as long as their greatest greens and
+    """Returns the slots of a pattern, or of the rings if no pattern is defined: as long as their maximum greens and
     clearances."""
     if pattern in tables.patterns():
         laid = Layout(tables, pattern)

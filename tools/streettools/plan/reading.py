@@ -230,7 +230,7 @@ def read_sheet(sheet: dict[str, Any]) -> tuple[Street, list[Defect]]:
 
 
 def street_of(sheet: dict[str, Any]) -> Street:
-    """Returns what a sheet comes to; Unreadable where it has faults."""
+    """Returns what a sheet means; raises Unreadable if it has faults."""
     street, faults = read_sheet(sheet)
     if faults:
         raise Unreadable(faults)

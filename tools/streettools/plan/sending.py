@@ -38,7 +38,7 @@ IN_FORCE_SECONDS = 5.0
 @dataclass
 class Load:
     """What an intersection's device gets: its number and name, where it is, its tables before and after, and the
-    downloads between them, each a list of cells. `alike` are the intersections that only a name tells from it,
+    downloads between them, each a list of cells. `alike` are the intersections that only a name distinguishes from it,
     `called_before` is its name in the old plan, `held` the intersections by their tables in the old plan."""
 
     number: int
@@ -116,7 +116,7 @@ class Device:
 
     def check(self, by_address: bool) -> bool:
         """Refuses a device that isn't the intersection's, or that takes no downloads; it is only read. Returns whether
-        it is to be loaded: not where it has the new plan already."""
+        it is to be loaded: not if it has the new plan already."""
         name = self.name()
         if name and name not in self.load.names():
             shown_name = "".join(it if it.isprintable() else "?" for it in name)
@@ -154,8 +154,8 @@ class Device:
         raise self.wrong(f"it takes no id of {first} to {first + TRIES - 1}; --id names a greater one")
 
     def step(self, bindings: list[tuple[Name, int | bytes | None]], outcome: int) -> None:
-        """Sets the objects of a step of a download, which must come to this outcome. It is a repeated one where the
-        answer to the first try was lost."""
+        """Sets the objects of a step of a download, which must have this outcome. The outcome is that of a repeated Set
+        if the answer to the first try was lost."""
         status = self.set(bindings).status
         said, rule, row = (self.value_at(it) for it in (OUTCOME, DETAIL, ROW))
         if status or said not in (outcome, REPEATED):

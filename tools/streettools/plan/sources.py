@@ -16,8 +16,8 @@ from ..shared.values import MOST_BYTES
 
 @dataclass
 class Source:
-    """A file: its name, its text where it is JSON, or where it is a sheet in TOML, what it comes to, and what was found
-    while it was read."""
+    """A file: its name, its text if it is JSON, or if it is a sheet in TOML, what it means, and what was found while it
+    was read."""
 
     path: str
     text: str | None = None

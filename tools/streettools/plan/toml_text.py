@@ -41,7 +41,7 @@ def scalar(value: object) -> str:
 
 
 def key(name: str) -> str:
-    """Returns a name, quoted where it must be."""
+    """Returns a name, quoted if it must be."""
     return name if re.fullmatch(r"[A-Za-z0-9_-]+", name) else scalar(name)
 
 

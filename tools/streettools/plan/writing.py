@@ -44,7 +44,7 @@ def about(known: names.Intersection) -> dict[str, Any]:
 
 
 def say(sheet: dict[str, Any], *path: str) -> dict[str, Any]:
-    """Returns the table at a path of a sheet, made where it isn't there."""
+    """Returns the table at a path of a sheet, made if it isn't there."""
     for name in path:
         sheet = sheet.setdefault(name, {})
     return sheet

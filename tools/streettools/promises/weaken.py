@@ -25,7 +25,7 @@ TOP_CALL, ANSWERS = "crates/station/src/top.rt#station", "crates/station/specs/C
 SAFE, WHOLE = (f"crates/safety_laws/specs/{it}.antt" for it in ("Safe", "Whole"))
 GROUPS = {TOP_CALL: 0, ANSWERS: 1, SAFE: 2, WHOLE: 3, "crates/plan_facts/specs/Meets.antt": 4}
 HEAD = re.compile(r"\s*(?:abbrev|pub (?:record|struct|enum|fn|trait|use|mod)|use|ghost use|#|\}|\)|\{$)")
-"""A row that removing would make no statement weaker: an import, or where a definition or a type begins or ends."""
+"""A row whose removal makes no statement weaker: an import, or where a definition or a type begins or ends."""
 INNER = r"\((?:[^()]|\((?:[^()]|\([^()]*\))*\))*\)"
 WAYS: dict[str, tuple[re.Pattern[str], dict[str, str]]] = {
     "< as ≤": (re.compile(r" < | nat_lt "), {" < ": " ≤ ", " nat_lt ": " nat_le "}),

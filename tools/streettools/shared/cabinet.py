@@ -106,7 +106,7 @@ class Cabinet:
         return self.sides[phase]
 
     def ended(self, load: Load) -> None:
-        """Puts a download in force, where it was accepted."""
+        """Puts a download in force, if it was accepted."""
         if load.version is None:
             return
         self.plans, self.sides = {}, {}
@@ -177,7 +177,7 @@ class Cabinet:
         return cycles_needed(correction(self.tables), known.cycle, cycle.target, drifts)
 
     def is_met(self, cycle: Cycle) -> bool:
-        """Returns whether a cycle begins on the offset: to within a tick where the clock drifts."""
+        """Returns whether a cycle begins on the offset: to within a tick if the clock drifts."""
         known = self.plan(cycle.pattern)
         if cycle.error is None or known is None:
             return False

@@ -28,8 +28,8 @@ DEEPEST = 32
 
 
 def plain(text: str) -> dict[str, Any]:
-    """Returns what a text in TOML says. ValueError where it is none, where lists and tables are nested too deep, and
-    where a number is infinite, is none (nan), or takes more than 64 bits."""
+    """Returns what a text in TOML says. Raises ValueError if it isn't valid TOML, if lists and tables are nested too
+    deep, and if a number is infinite, is none (nan), or takes more than 64 bits."""
     try:
         found = tomllib.loads(text)
     except RecursionError:

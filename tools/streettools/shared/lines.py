@@ -47,7 +47,7 @@ usual = lru_cache(MOST_KEPT)(number)
 
 
 def signed(digits: bytes) -> int:
-    """Returns the number of 32 bits that is written with a sign where it is below 0."""
+    """Returns the number of 32 bits that is written with a sign if it is below 0."""
     value = int(digits)
     if not -(2**31) <= value < 2**31 or b"%d" % value != digits:
         raise ValueError
@@ -194,7 +194,7 @@ def scenario(line: bytes) -> Scenario:
 
 
 def record(line: bytes) -> Record:
-    """Returns the record of a line other than the first; ValueError where it is none."""
+    """Returns the record of a line other than the first; raises ValueError if it isn't a line."""
     found = KINDS.get(line[:2])
     if found is None:
         raise ValueError

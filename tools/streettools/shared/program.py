@@ -22,7 +22,7 @@ it."""
 OWN, FINDER = os.path.join(HERE, "arterial"), os.path.join(HERE, "proved")
 """The program of an installation, and the script that finds the one of a checkout."""
 CARRIED = os.path.join(HERE, "arterial", "data", "program", "arterial")
-"""The program inside the Python package, where a wheel carries one."""
+"""The program inside the Python package, if a wheel carries one."""
 TRIED = os.path.join(HERE, "tried")
 """The script that finds the unproved program of a checkout."""
 MODEL = os.path.join(os.path.dirname(HERE), "model", "program")
@@ -112,14 +112,14 @@ def tried() -> str | None:
 
 def command(*words: str) -> list[str]:
     """Returns the command that runs the program with these words. In a checkout the program is found as the command
-    runs, which takes a while: it ends with a status of NONE_HERE where none was proved."""
+    runs, which takes a while: it ends with a status of NONE_HERE if none was proved."""
     if os.environ.get("ARTERIAL_PROGRAM") or os.path.isfile(OWN) or not os.path.isfile(FINDER):
         return [path_of(), *words]
     return ["/bin/sh", "-c", FIND, FINDER, *words]
 
 
 def usual() -> str:
-    """Returns the path of the program where nothing names it."""
+    """Returns the path of the program if nothing names it."""
     if os.path.isfile(OWN):
         return OWN
     if os.path.isfile(CARRIED):

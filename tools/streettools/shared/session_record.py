@@ -76,8 +76,8 @@ def is_set(octets: bytes) -> bool:
 
 
 class Brought(NamedTuple):
-    """What a request brought in a round: to a cabinet, or to all where it is 0; the pass, how many items, and whether
-    it is kept."""
+    """What a request brought in a round: to which cabinet, 0 for all; the pass, how many items, and whether it is
+    kept."""
 
     cabinet: int
     number: int

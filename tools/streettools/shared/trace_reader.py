@@ -42,8 +42,8 @@ MOST_NUMBER = {"veh": 16, "ped": 16, "preempt": 8}
 
 
 def inputs_of(scenario: dict[str, Any]) -> dict[int, Came]:
-    """Returns the inputs of each round by cabinet, in the order of the scenario's list; ValueError where one of them is
-    none."""
+    """Returns the inputs of each round by cabinet, in the order of the scenario's list; raises ValueError if one isn't
+    valid."""
     found: dict[int, Came] = {}
     for item in scenario.pop("inputs", ()):
         number, cabinet = item["round"], item["cabinet"]

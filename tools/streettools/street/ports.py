@@ -145,10 +145,10 @@ class Agent(asyncio.DatagramProtocol):
             task.add_done_callback(self.tasks.discard)
 
     def error_received(self, fault: Exception) -> None:
-        """A reply is lost, as where the client has gone."""
+        """A reply is lost, as when the client has gone."""
 
     async def answer(self, data: bytes, client: tuple[Any, ...]) -> None:
-        """Answers a datagram where the cabinet does."""
+        """Answers a datagram if the cabinet does."""
         manager = (client[0], client[1])
         reply = await self.asked(self.cabinet, data, manager)
         if reply is None:

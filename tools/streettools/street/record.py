@@ -60,7 +60,7 @@ class Requests:
             self.write()
 
     def write(self) -> None:
-        """Writes the lines that wait; where they can't be written whole none of them stays."""
+        """Writes the lines that wait; if they can't be written whole, none of them stays."""
         text, self.waiting = self.waiting, b""
         left = text
         try:

@@ -267,7 +267,7 @@ class Street:
         self.end()
 
     async def renewed(self) -> bool:
-        """Begins a new session where one is over, except where the street ends with it; returns whether it does."""
+        """Begins a new session if one is over, unless the street ends with it; returns whether it does."""
         await self.close()
         if self.stops_at_end:
             return False

@@ -21,7 +21,7 @@ from .values import Option
 from .variants import Variant
 
 SHARED = ("inputs", "loads", "priority", "frames", "faults")
-"""Lists of a scenario that are long, and are copied only where a path leads into them."""
+"""Lists of a scenario that are long, and are copied only if a path leads into them."""
 
 
 @dataclass(frozen=True)

@@ -88,7 +88,7 @@ class Journal:
         return row
 
     def close(self, remove: bool = False) -> None:
-        """Closes the file, and takes it away where it is no longer needed."""
+        """Closes the file, and removes it if it is no longer needed."""
         if remove:
             self.path.unlink(missing_ok=True)
         self.file.close()

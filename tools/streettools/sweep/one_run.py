@@ -150,7 +150,7 @@ class Runner:
             return self.measured(replace(built, scenario=queued.scenario_of(ran.trace)), trace, traffic)
 
     def checked(self, trace: BinaryIO) -> None:
-        """Has a trace checked, where that is asked for."""
+        """Has a trace checked, if that is asked for."""
         if self.check and (answer := self.ran("check", trace, subprocess.DEVNULL)).status:
             raise Failed(f"check: {answer.said}")
 

@@ -22,7 +22,7 @@ OPTIONAL = {
     "line": ("lose",),
     "volumes": ("factor",),
 }
-"""Names that may be put though they aren't there: where they are absent the scenario has a value for them."""
+"""Names that may be put though they aren't there: if they are absent, the scenario has a default for them."""
 
 
 @dataclass(frozen=True)

@@ -41,7 +41,7 @@ class Over(NamedTuple):
 
 
 def frame_of(row: Row) -> Frame:
-    """Returns a frame that was read; ValueError where its mode is none."""
+    """Returns a frame that was read; raises ValueError if its mode isn't valid."""
     cabinet, tick, vehicles, pedestrians, mode, counter, target, version = row
     return Frame(
         int(cabinet),
@@ -72,7 +72,7 @@ def blocks(stream: BinaryIO) -> Iterator[bytes]:
 
 
 def happenings(stream: BinaryIO) -> Iterator[Row | Said | Over]:
-    """Yields what happened, in the order of the trace; ValueError where a line is none of a trace."""
+    """Yields what happened, in the order of the trace; raises ValueError if a line isn't one of a trace."""
     number = 0
     for block in blocks(stream):
         if b"\nL" in block or b"\nM" in block:

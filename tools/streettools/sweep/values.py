@@ -41,7 +41,7 @@ class Steps:
 
 @dataclass(frozen=True)
 class Option:
-    """A whole alternative: its name, what it puts, and the scenario in place of the base, where it has one."""
+    """A whole alternative: its name, what it puts, and the scenario that replaces the base, if it has one."""
 
     name: str
     puts: tuple[tuple[Put, Any], ...] = ()

@@ -41,7 +41,7 @@ class PhaseDetectors:
             self.until = end
 
     def told(self, now: float, requests: list[bytes]) -> None:
-        """Adds what has changed since the last step began: on and off both, where a vehicle came and went between."""
+        """Adds what has changed since the last step began: on and off both, if a vehicle came and went between."""
         is_on = self.until > now
         if not is_on:
             for line, least in self.lines:

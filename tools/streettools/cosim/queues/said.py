@@ -46,7 +46,7 @@ def with_travel(flow: Flow, said: Said) -> Flow:
 
 
 def with_travels(volumes: Volumes, said: Said) -> Volumes:
-    """Returns the volumes with the times of travel of the sheet where the file has none."""
+    """Returns the volumes with the times of travel of the sheet if the file has none."""
     return replace(volumes, flows=tuple(with_travel(it, said) for it in volumes.flows))
 
 

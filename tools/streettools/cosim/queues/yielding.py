@@ -1,4 +1,5 @@
-"""To whom a turn gives way, and with which gaps, by the names of movements where the file of volumes says no more."""
+"""The movements to which a turn gives way, and with which gaps, by the names of movements if the file of volumes
+doesn't say it."""
 
 import re
 

@@ -138,7 +138,7 @@ class CabinetNumbers:
             )  # fmt: skip
 
     def changed(self, before: Frame, frame: Frame) -> None:
-        """Keeps how greens end with a frame, and a barrier where a phase of another side turns green."""
+        """Keeps how greens end with a frame, and a barrier if a phase of another side turns green."""
         for phase, was, shows in changes(before.vehicles, frame.vehicles):
             if was == "G":
                 ending = self.shared.endings.number(self.cabinet.ending(phase, frame))

@@ -132,7 +132,7 @@ class Cabinet:
         return found
 
     async def got_bulk(self, asked: Message) -> bytes:
-        """Returns the reply to a GetBulk, which is cut where a message can't be longer."""
+        """Returns the reply to a GetBulk, which is cut at the maximum length of a message."""
         single = max(0, asked.first)
         found = await self.got_next(asked, asked.bindings[:single])
         row = asked.bindings[single:]
