@@ -25,7 +25,7 @@ class BankItem:
 
 @dataclass
 class Rounds:
-    """What a detector's pulses come to, round by round; the place 0 is before all rounds."""
+    """The results of a detector's pulses, round by round; the place 0 is before all rounds."""
 
     is_pulsed: list[bool] = field(default_factory=lambda: [False])
     is_active: list[bool] = field(default_factory=lambda: [False])
@@ -33,7 +33,7 @@ class Rounds:
 
 
 def rounds_of(pulses: list[list[bool]]) -> Rounds:
-    """Returns what the pulses of each round from 1 on come to."""
+    """Returns the results of the pulses of each round from 1 on."""
     told, is_on = Rounds(), False
     for given in pulses:
         edges = 0

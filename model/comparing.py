@@ -60,7 +60,7 @@ def compared(program: Path, case: Case) -> Difference | None:
 
 
 def broken_by_trace(case: Case, output: bytes) -> Difference | None:
-    """Returns what is wrong with the trace that a run wrote, or that a session comes to, None if nothing is."""
+    """Returns what is wrong with the trace that a run wrote, or that a session results in, None if nothing is."""
     if case.words == ["live"]:
         output = trace_of_session(case.data, output)
         if told := answer(["check"], output).said:

@@ -17,8 +17,8 @@ def hurry(past: Past, mode: Mode, goal: frozenset[int] | None, p: int) -> Preemp
 
 
 def signal_next(past: Past, p: int, row: Preempt | None) -> Signal:
-    """Returns the signal that follows if none begins: Walk, then flashing for the clearance, then none. Without a time for
-    the clearance the flashing is left out."""
+    """Returns the signal that follows if none begins: Walk, then flashing for the clearance, then none. If the
+    clearance has no time, the flashing is left out."""
     shown = past.last.frame.signals.of[p]
     if shown is Signal.DONT:
         return shown

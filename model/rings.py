@@ -121,7 +121,7 @@ class Rings:
 
     @functools.cached_property
     def clearance_on(self) -> int:
-        """Returns the greatest clearance of the phases that were on in the last frame."""
+        """Returns the longest clearance of the phases that were on in the last frame."""
         return max((self.row[p].clearance for p in self.past.last.frame.lights.on), default=0)
 
     def elsewhere(self, k: int) -> bool:

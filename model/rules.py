@@ -1,8 +1,7 @@
-"""The rules that a cabinet's tables must keep: the first that they break, and its least row.
+"""The rules that a cabinet's tables must keep: the first that they break, and its lowest row.
 
-docs/SCENARIO.md, "The rules of tables". The rules 1 to 12 and 20 to 22 speak of phases, sides, sequences and
-preempts, the rules 13 to 19 (pattern_rules.py) of coordination. A rule is looked at only where all rules before it
-hold in all rows.
+docs/SCENARIO.md, "The rules of tables". The rules 1 to 12 and 20 to 22 speak of phases, sides, sequences and preempts,
+the rules 13 to 19 (pattern_rules.py) of coordination. A rule is tested only if all rules before it hold in all rows.
 """
 
 from collections.abc import Callable, Iterable

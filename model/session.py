@@ -19,7 +19,8 @@ MOST_BROUGHT = 100_000
 
 
 def first_out_of_order(items: list[Item]) -> int | None:
-    """Returns the place of the first item that has a lesser round than the one before it, None if there is none."""
+    """Returns the place of the first item whose round is lower than that of the one before it, None if there is
+    none."""
     return next((two.place for one, two in zip(items, items[1:]) if two.round < one.round), None)
 
 

@@ -42,7 +42,7 @@ def is_in_group(shown: Shown, column: Group, p: int) -> bool:
 
 
 def group_value(shown: Shown, name: GroupName) -> int:
-    """Returns the bits of a group of eight phases, the lowest phase in the least bit."""
+    """Returns the bits of a group of eight phases, the lowest phase in the lowest bit."""
     first = 8 * (name.group - 1) + 1
     return sum(1 << bit for bit in range(8) if is_in_group(shown, name.column, first + bit))
 

@@ -49,7 +49,7 @@ class Generate(Seed):
 
 
 class Survey(Seed):
-    """Say what a run of a generated scenario comes to."""
+    """Print the results of a run of a generated scenario."""
 
 
 @dataclass(frozen=True)
@@ -91,7 +91,7 @@ def generate(words: list[str], kind: type[Generate] | type[Survey]) -> Command |
 
 
 def overlaps(words: list[str]) -> Command | None:
-    """Returns what is asked of an overlap."""
+    """Returns the question about an overlap."""
     told = pairs(words, ["--cabinet", "--parents", "--trail", "--yellow", "--red"])
     if told is None or not re.fullmatch(r"(?:[0-9A-Fa-f]{2}){1,16}", told[1]):
         return None

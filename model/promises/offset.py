@@ -16,8 +16,8 @@ from model.words import Kind
 
 
 def pickup_bound(versions: list[Tables]) -> int:
-    """Returns within how many ticks a pattern that is sought is picked up: each time is the greatest over some
-    versions, column by column."""
+    """Returns within how many ticks a pattern that is sought is picked up: each time is the longest over some versions,
+    column by column."""
     used = {p for tables in versions for p in enabled(tables)}
 
     def greatest(p: int, column: str) -> int:

@@ -55,7 +55,7 @@ class Sets(Hearer):
         self.record.lines.clear()
 
     def size(self) -> int:
-        """Returns about how many octets the messages have in a scenario."""
+        """Returns about how many bytes the messages have in a scenario."""
         return self.record.added_size + OF_FRAME * len(self.record.added["frames"])
 
     def is_full(self) -> bool:

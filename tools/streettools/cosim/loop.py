@@ -62,7 +62,7 @@ class Given:
         return math.floor(self.seconds / self.step + 1e-9)
 
     def for_session(self) -> dict[str, Any]:
-        """Returns the scenario with as many rounds as the run needs, and what comes in them."""
+        """Returns the scenario with as many rounds as the run needs, and its items in these rounds."""
         rounds = math.ceil(self.steps() * self.ticks() / self.scenario["ticks"])
         if rounds > MOST_ROUNDS:
             words = f"the run needs {rounds} rounds of {self.scenario['ticks']} ticks"

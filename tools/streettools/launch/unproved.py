@@ -45,7 +45,7 @@ LIMITS = (
 
 
 class Unfinished(Exception):
-    """The run came to no answer, in words, with its exit status."""
+    """The run gave no answer; the words say why, with its exit status."""
 
     def __init__(self, why: str, status: Status = Status.UNFINISHED) -> None:
         super().__init__(why)
@@ -82,7 +82,7 @@ def ran(rt: str, arguments: list[str], stdin: IO[bytes], stdout: IO[bytes]) -> t
 
 
 def why_not(said: bytes) -> tuple[str, Status]:
-    """Returns why a run came to no answer, by what the kit said, and the exit status."""
+    """Returns why a run gave no answer, by what the kit said, and the exit status."""
     for limit, words_of_it in LIMITS:
         if re.search(limit, said):
             return words_of_it, Status.UNFINISHED

@@ -25,8 +25,8 @@ COLOURS = {"G": pictures.GREEN, "Y": pictures.YELLOW}
 
 @dataclass
 class View:
-    """What is looked at: the first and the last tick, how many ticks around them bands come from, the phases that are
-    shown instead of the coordinated ones, and what things are called."""
+    """What is shown: the first and the last tick, for how many ticks around them bands are looked for, the phases that
+    are shown instead of the coordinated ones, and what things are called."""
 
     start: int
     end: int
@@ -37,7 +37,7 @@ class View:
 
 class Corner:
     """A cabinet of the street: `spans` has for each way (0 outbound, 1 inbound) and colour the ticks at which it is
-    shown, whole and as far as `margin` ticks around what is looked at, since bands come from there."""
+    shown, whole and as far as `margin` ticks around the shown ones, for the bands that begin there."""
 
     def __init__(self, scenario, number, view):
         self.cabinet, self.names = opened(scenario, number), view.names

@@ -1,6 +1,6 @@
 """The field's own event log of a trace: the codes of the Indiana Traffic Signal Hi Resolution Data Logger Enumerations.
 
-docs/EVENTS.md says of each code what of a trace it comes from. Rows are in order of time, of cabinets within a time.
+docs/EVENTS.md says from what part of a trace each code is made. Rows are in order of time, of cabinets within a time.
 """
 
 from datetime import datetime, timedelta
@@ -169,7 +169,7 @@ class Log:
             self.add(tick, SIGNALS[shows], phase)
 
     def place(self, side):
-        """Returns the number of a side, named by its least phase, in the order of those least phases."""
+        """Returns the number of a side, named by its lowest phase, in the order of those lowest phases."""
         sides = {self.cabinet.side(phase) for phase in self.cabinet.tables.enabled()}
         return sorted(sides | {side}).index(side) + 1
 

@@ -20,7 +20,7 @@ class Source(io.FileIO):
         self.called = name or "standard input"
 
     def readinto(self, room):
-        """Reads some octets."""
+        """Reads some bytes."""
         try:
             return super().readinto(room)
         except OSError as fault:
@@ -28,7 +28,7 @@ class Source(io.FileIO):
 
 
 def kept(source):
-    """Returns a file with what comes from a source that can't be read twice, as a pipe."""
+    """Returns a file with the content of a source that can't be read twice, as a pipe."""
     import tempfile
 
     file = tempfile.TemporaryFile()
@@ -51,7 +51,7 @@ class Checked(TraceReader):
             self.check.told()
 
     def finish(self):
-        """Makes sure that the trace came to its end, and that the check found it to be one."""
+        """Makes sure that the trace was complete, and that the check accepted it."""
         self.answered()
         if not self.whole:
             raise Fault(f"line {self.line} is not a line of a trace: the trace ends before its Z line")

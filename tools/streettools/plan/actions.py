@@ -190,7 +190,7 @@ def do_explain(words: argparse.Namespace) -> int:
 
 
 def utdf_text_of(path: str) -> str:
-    """Returns the text of a UTDF file; other octets than those of UTF-8, as in names, are replaced."""
+    """Returns the text of a UTDF file; bytes that aren't UTF-8, as in names, are replaced."""
     return jsontext.decoded(content_of(path).removeprefix(b"\xef\xbb\xbf"), replaced=True)
 
 

@@ -43,7 +43,7 @@ def opened(content: bytes) -> openpyxl.Workbook:
 
 
 def pages(content: bytes) -> Iterator[Page]:
-    """Yields the pages of a workbook. Whatever openpyxl says of a file that is damaged comes to one refusal."""
+    """Yields the pages of a workbook. Any fault of openpyxl for a damaged file becomes one refusal."""
     warnings.filterwarnings("ignore", module="openpyxl")
     try:
         book, left = opened(content), MOST_ROWS
@@ -80,7 +80,7 @@ def page_of(sheet, most: int) -> tuple[Page, int]:
 
 
 def read(content: bytes) -> tuple[dict, list[str]]:
-    """Returns the sheet that a workbook is, and what was left out of it, in words."""
+    """Returns the sheet in a workbook, and what was left out of it, in words."""
     sheet: dict[str, Any] = {"intersection": []}
     notes = []
     for page in list(pages(content)):

@@ -62,8 +62,8 @@ def place_at(text: str, at: int) -> Place:
 
 
 def decoded(content: bytes, replaced: bool = False) -> str:
-    """Returns the text of some bytes, which must be UTF-8; where octets may be `replaced`, those that are none are read
-    as Latin letters."""
+    """Returns the text of some bytes, which must be UTF-8; if bytes may be `replaced`, invalid ones are read as Latin
+    letters."""
     if replaced:
         try:
             return content.decode()

@@ -45,7 +45,7 @@ def sides_by_phase(tables: Tables) -> dict[int, frozenset[int]]:
 
 
 def sides(tables: Tables) -> list[frozenset[int]]:
-    """Returns the sides of the barrier, by their least phase."""
+    """Returns the sides of the barrier, by their lowest phase."""
     return list(dict.fromkeys(sides_by_phase(tables).values()))
 
 
@@ -110,7 +110,7 @@ class Layout:
         return max(self.slots[it][1] for it in self.side(phase) if it in self.slots)
 
     def side_clearance(self, phase: int) -> int:
-        """Returns the greatest clearance of the side of a phase."""
+        """Returns the longest clearance of the side of a phase."""
         return max(self.tables.clearance(it) for it in self.side(phase))
 
     def last_end(self, phase: int) -> int:

@@ -40,7 +40,7 @@ TOO_BIG, NO_SUCH_NAME = 1, 2
 
 
 class Agent:
-    """An agent that answers at a port of a host. Datagrams from elsewhere don't come in."""
+    """An agent that answers at a port of a host. Datagrams from elsewhere are ignored."""
 
     def __init__(self, host: str, port: int, community: str):
         self.where, self.community = f"{host}:{port}", community.encode(errors="surrogateescape")
@@ -68,7 +68,7 @@ class Agent:
         raise self.refusal(f"no answer in {TRIES} attempts{more}; check the port and the community")
 
     def answer(self, deadline: float) -> Reply:
-        """Returns the answer to the question that was asked last; TimeoutError if it doesn't come in time."""
+        """Returns the answer to the last question; TimeoutError if it doesn't arrive in time."""
         while True:
             self.socket.settimeout(max(0.001, deadline - time.monotonic()))
             octets = self.socket.recv(65_536)

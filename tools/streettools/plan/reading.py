@@ -24,7 +24,7 @@ LISTS = ("inputs", "loads", "priority", "frames", "faults")
 
 @dataclass
 class Street:
-    """What a sheet comes to: a scenario, the names, what was entered for it, and what only a field file can hold."""
+    """The result of a sheet: a scenario, the names, what was entered for it, and what only a field file can hold."""
 
     scenario: dict[str, Any]
     names: names.Names
@@ -34,7 +34,8 @@ class Street:
     respond: dict[str, Any] | None = None
     doubts: list[Finding] = field(default_factory=list)
     numbers: set[int] | None = None
-    """The places of the schedule's entries whose time is written as a number; None if it comes from no sheet."""
+    """The places of the schedule's entries whose time is written as a number; None if the schedule isn't from a
+    sheet."""
     day_plans: list[days.DayPlan] = field(default_factory=list)
 
     def on(self, plan: days.DayPlan) -> None:
@@ -198,7 +199,7 @@ def read_days(top: Given, street: Street, schedule: list[dict] | None) -> None:
 
 
 def read_sheet(sheet: dict[str, Any]) -> tuple[Street, list[Defect]]:
-    """Returns what a sheet comes to, and all faults that were found in it."""
+    """Returns the result of a sheet, and all faults that were found in it."""
     top = Given(sheet, faults=[])
     top.allow(TOP, intersection.HOMES)
     found = read_names(top)

@@ -175,7 +175,7 @@ class Sentences:
         return f"{self.phase(row)} has a yellow change of {seconds(yellow)}{hint}; it must be 3 s or more"
 
     def rule_11(self, row: int) -> str:
-        """The red revert is no longer than any other phase takes at least."""
+        """The red revert is no longer than the minimum service and clearance of any other phase."""
         other = street_rules.sooner(self.tables, row)
         assert other is not None
         least = least_service(self.tables, other) + self.tables.clearance(other)

@@ -42,7 +42,7 @@ def load(path: str, named: str | None = None) -> Source:
 
 
 def source_of(path: str, content: bytes, known: Callable[[], names.Names]) -> Source:
-    """Returns what a file of this name and content comes to; `known` gives the names of a scenario."""
+    """Returns the result of a file with this name and content; `known` gives the names of a scenario."""
     source = Source(path)
     if path.endswith(".xlsx") or content[:4] == b"PK\x03\x04":
         from . import book_reading  # here, since openpyxl takes a while

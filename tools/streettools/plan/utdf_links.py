@@ -81,7 +81,7 @@ class Links:
         return BLANK
 
     def up(self, node: str, way: str) -> str:
-        """Returns the node that an approach comes from, empty if the file doesn't say it."""
+        """Returns the node from which an approach leads here, empty if the file doesn't say it."""
         entry = self.entry(node, way, *UP) or self.layout.get(node, {}).get(LEGS[way] + "_ID", BLANK)
         number = self.utdf.whole(entry)
         return str(number) if number else ""

@@ -122,7 +122,7 @@ def cell_of(name: Name) -> tuple | None:
 
 @dataclass
 class Walked:
-    """What a walk comes to: tables, the pattern in command, the clock, detectors, and the objects without a place."""
+    """The result of a walk: tables, the pattern in command, the clock, detectors, and the objects without a place."""
 
     tables: Tables = field(default_factory=Tables)
     command: int = 0

@@ -13,7 +13,7 @@ from .started import Read
 
 
 def read_back(sheet: dict[str, Any]) -> Read | None:
-    """Returns what an intersection of a sheet comes to, None if it has faults."""
+    """Returns the result of an intersection of a sheet, None if it has faults."""
     it = Given(sheet, faults=[])
     found, _ = intersection.read(it)
     return None if it.faults else found

@@ -100,7 +100,7 @@ class Cabinet:
         return self.plans[pattern]
 
     def side(self, phase: int) -> int:
-        """Returns a phase's side of the barrier by the tables in force, named by its least phase."""
+        """Returns a phase's side of the barrier by the tables in force, named by its lowest phase."""
         if phase not in self.sides:
             self.sides[phase] = min(self.tables.side(phase), default=phase)
         return self.sides[phase]

@@ -110,7 +110,7 @@ class Unreadable(Fault):
 
 
 def is_place(word: str, most: int) -> bool:
-    """Tells whether a word is a number from 1 to the greatest."""
+    """Tells whether a word is a number from 1 to `most`."""
     return word.isdecimal() and len(word) <= 9 and 1 <= int(word) <= most
 
 

@@ -19,7 +19,7 @@ from .status import Status
 SECONDS = 120.0
 """How long the program may write nothing while it owes an answer."""
 LONGEST = 1 << 24
-"""The octets of the longest answer that is read. One to 600 ticks of 64 cabinets has at most 3 million."""
+"""The bytes of the longest answer that is read. One to 600 ticks of 64 cabinets has at most 3 million."""
 PIECE = 1 << 16
 DOT = b"."
 LISTS = ("inputs", "loads", "priority", "frames", "faults")
@@ -48,7 +48,7 @@ class Answers:
         self.size = 0
 
     def fed(self, octets: bytes) -> list[Answer]:
-        """Takes octets, and returns the answers that end in them."""
+        """Takes bytes, and returns the answers that are complete with them."""
         *lines, self.rest = (self.rest + octets).split(b"\n")
         self.size += len(octets)
         found = []
@@ -128,7 +128,7 @@ class Session:
         return found
 
     def written(self, text: bytes) -> int:
-        """Writes what there is room for, and returns how many octets that were."""
+        """Writes what there is room for, and returns how many bytes that were."""
         try:
             return os.write(self.input, text)
         except BlockingIOError:

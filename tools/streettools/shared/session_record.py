@@ -22,7 +22,7 @@ MOST_INPUTS, MOST_FRAMES, MOST_SCENARIO, MOST_TRACE = 1_000_000, 100_000, 16_777
 FULL = 0.9
 """Which part of what a scenario leaves free is used before a session ends for its record's sake."""
 OF_ITEM = 60
-"""How many octets more an item has in a scenario than in its request."""
+"""How many bytes more an item has in a scenario than in its request."""
 
 Runs = list[tuple[int, int]]
 """A journal in runs of a pass and a number."""
@@ -127,7 +127,7 @@ class SessionRecord:
         self.added: dict[str, list[dict[str, Any]]] = {"inputs": [], "frames": []}
         self.lines: list[bytes] = []
         self.size = self.added_size = 0
-        """The octets of the lines, and about how many those of what was added to the scenario have."""
+        """The bytes of the lines, and about how many bytes the added part of the scenario has."""
         self.journals: dict[int, bytes] = {}
         self.events: dict[int, list[bytes]] = defaultdict(list)
         self.brought: list[Brought] = []

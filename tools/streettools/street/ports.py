@@ -18,7 +18,7 @@ WAITING = 64
 MOST_LATE = 4096
 """How many datagrams of a street may be late at a time on a bad line; further ones are lost."""
 ROOM = 1 << 20
-"""The octets that the system is asked to hold for a port."""
+"""The bytes that the system is asked to buffer for a port."""
 
 Manager = tuple[str, int]
 Asked = Callable[[int, bytes, Manager], Awaitable[bytes | None]]

@@ -16,7 +16,7 @@ from ..shared.session import PIECE, SECONDS, Answer, Answers, Rounds, scenario_l
 MOST_OF_A_ROUND = 90_000
 """How many inputs and messages may be asked in a round before it is ended. The program takes 100,000."""
 MOST = 16
-"""How many requests may be without answer at once. A request has at most 2,962 octets, and a pipe holds 65,536."""
+"""How many requests may be without answer at once. A request has at most 2,962 bytes, and a pipe holds 65,536."""
 
 Heard = Callable[[bytes | None, Answer], None]
 """Is called with each request and its answer; None means the scenario, or the end of input."""

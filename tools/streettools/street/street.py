@@ -139,7 +139,7 @@ class Street:
             return None
 
     async def messages(self, cabinet: int, several: list[bytes]) -> list[bytes | None]:
-        """Returns a cabinet's replies to messages, between which nothing else comes to it."""
+        """Returns a cabinet's replies to messages, between which it receives nothing else."""
         try:
             self.session.in_round += len(several)
             under_way = [self.session.send(it, it) for it in (frame(cabinet, octets) for octets in several)]

@@ -1,4 +1,4 @@
-"""Through bands of a street: those of the plan, as the program tells, and those that came out in the trace."""
+"""Progression bands of a street: those of the plan, as the program reports them, and those that the trace shows."""
 
 import functools
 import json
@@ -67,7 +67,7 @@ class StreetTally:
         self.greens = {number: Greens(cabinets[number], street.pattern) for number in numbers}
 
     def close(self, last: int) -> StreetCounts:
-        """Returns the bands that came out: the spans of time at which a vehicle may start so as to meet green in
+        """Returns the bands that the trace shows: the spans of time at which a vehicle may start so as to meet green in
         each cabinet."""
         ways = delays_of(self.street.travel)
         reached = ways[0]

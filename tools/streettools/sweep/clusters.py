@@ -1,4 +1,4 @@
-"""Workers on other machines: a cluster of Dask, which one comes in to only with a certificate."""
+"""Workers on other machines: a cluster of Dask, whose members need a certificate."""
 
 import contextlib
 import importlib

@@ -22,7 +22,8 @@ AIM, MOST, GROWTH = 5.0, 64, 4
 """The seconds that a batch should take, its maximum number of runs, and its maximum size as a multiple of the batch
 before: on a cluster it takes 5 to 20 ms to send a batch and to take its results."""
 SHARES = 2
-"""Of what is left a batch has at most this part of a worker's share, so that all workers end at about the same time."""
+"""A batch has at most a worker's share of the remaining runs divided by this, so that all workers end at about the same
+time."""
 LOOK, LOOK_ALONE = 10.0, 2.0
 """The seconds between two looks at how many workers there are, and at whether the first has come."""
 PATIENCE, PATIENCE_ALONE = 5.0, 30.0

@@ -82,7 +82,7 @@ class Worker:
         its.close()
 
     def memory(self) -> int:
-        """Returns the octets of memory that the process has; 0 if it is gone."""
+        """Returns the bytes of memory that the process has; 0 if it is gone."""
         try:
             return int(Path(f"/proc/{self.process.pid}/statm").read_text().split()[1]) * PAGE
         except (OSError, IndexError):

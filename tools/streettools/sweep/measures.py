@@ -1,4 +1,4 @@
-"""The measures that are built in: each with its unit, its definition, and how it comes from what was counted."""
+"""The measures that are built in: each with its unit, its definition, and how it is computed from the counts."""
 
 import enum
 from collections.abc import Callable, Iterable
@@ -48,7 +48,7 @@ def summed(numbers: Iterable[float]) -> float:
 
 
 def greatest(numbers: Iterable[float]) -> float:
-    """Returns the greatest of numbers."""
+    """Returns the maximum of numbers."""
     return max(numbers)
 
 
@@ -73,7 +73,7 @@ def share(part: str, whole: str) -> Callable[[list[Any]], Value]:
 
 
 def spread(name: str, which: str, scale: int = 10) -> Callable[[list[Any]], Value]:
-    """Returns the least, the mean or the greatest of lengths; the scale makes seconds of ticks."""
+    """Returns the minimum, the mean or the maximum of lengths; the scale converts ticks to seconds."""
 
     def value(parts: list[Any]) -> Value:
         found = Spread.of(getattr(it, name) for it in parts)

@@ -57,7 +57,7 @@ class Run:
 
 
 class Failed(Exception):
-    """A run came to no measures, in words."""
+    """A run gave no measures; the words say why."""
 
 
 def kept(text: bytes = b"") -> BinaryIO:

@@ -1,4 +1,4 @@
-"""What comes from the street in a run: the inputs of each phase of a cabinet, by their ticks."""
+"""The inputs from the street in a run: the inputs of each phase of a cabinet, by their ticks."""
 
 from collections.abc import Iterable, Sequence
 from dataclasses import dataclass, field
@@ -84,7 +84,7 @@ def joined(streams: list[Stream]) -> Stream:
 
 
 class Sensed:
-    """All that comes from the street in a run."""
+    """All inputs from the street in a run."""
 
     def __init__(self, streams: Iterable[Stream], ticks: int) -> None:
         self.ticks = ticks

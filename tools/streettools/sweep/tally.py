@@ -1,6 +1,6 @@
 """Counts what happened in a run: each green, each wait, each local zero, each download, each note.
 
-Only what is asked for is counted. Inputs are taken phase by phase, where something of the phase changes: while its
+Only what is asked for is counted. Inputs are taken phase by phase, when something of the phase changes: while its
 signal stays the same, a call begins and ends only by them.
 """
 
@@ -25,7 +25,7 @@ PHASES = tuple(ALL)
 
 @functools.lru_cache(maxsize=4096)
 def turned(before: bytes, after: bytes, letter: bytes) -> tuple[tuple[int, ...], tuple[int, ...]]:
-    """Returns the phases that come to show a letter between two frames, and those that cease to."""
+    """Returns the phases that begin to show a letter between two frames, and those that cease to."""
     shown = letter[0]
     changed = [(phase, now) for phase, was, now in zip(PHASES, before, after) if was != now and shown in (was, now)]
     return (

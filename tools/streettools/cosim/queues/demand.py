@@ -86,7 +86,7 @@ class Network:
         self.known: dict[tuple[int, ...], Way] = {}
 
     def entries(self) -> Iterator[int]:
-        """Yields the movements whose vehicles come from outside the street."""
+        """Yields the movements whose vehicles enter from outside the street."""
         for place, it in enumerate(self.flows):
             if (it.cabinet, it.approach) not in self.fed:
                 yield place

@@ -1,6 +1,6 @@
 """Rows of whole numbers, kept by columns and packed for a page.
 
-A column is written in planes: the lowest octet of each number first, then the next octet of each, four in all. The high
+A column is written in planes: the lowest byte of each number first, then the next byte of each, four in all. The high
 planes are mostly zeros, so that the whole deflates well. Ticks are written as the steps between them.
 """
 
@@ -59,7 +59,7 @@ def steps(ticks: array) -> Iterator[int]:
 
 
 def planes(numbers: array) -> bytes:
-    """Returns numbers as four planes of octets."""
+    """Returns numbers as four planes of bytes."""
     octets = array("I", [number & 0xFFFFFFFF for number in numbers]).tobytes()
     return b"".join(octets[place::4] for place in range(4))
 

@@ -27,7 +27,7 @@ Answered = tuple[int, int]
 
 
 def digest_of(octets: bytes) -> bytes:
-    """Returns what tells octets from all others."""
+    """Returns a digest that identifies octets."""
     return hashlib.blake2b(octets, digest_size=16).digest()
 
 

@@ -1,4 +1,4 @@
-"""Who may come in to the panel: connections, and what they must bring."""
+"""The panel's access control: connections, and what they must bring."""
 
 import asyncio
 import errno

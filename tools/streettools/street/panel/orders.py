@@ -8,7 +8,7 @@ from ..words import FASTEST, SLOWEST
 from .streams import MOST
 
 LONGEST = 512
-"""The octets of the longest order."""
+"""The bytes of the longest order."""
 MOST_STEP = 36_000
 PLACES = {"veh": 16, "ped": 16, "preempt": 8}
 

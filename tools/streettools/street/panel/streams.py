@@ -39,7 +39,7 @@ class Streams:
             it.next, it.leaves = self.gap(it.rate) if it.rate else 0, None
 
     def gap(self, rate: int) -> float:
-        """Draws the ticks until the next vehicle, at least those for which one stays and one more."""
+        """Draws the ticks until the next vehicle: at least those for which a vehicle stays, and one more."""
         return max(STAYS + 1, self.draw.expovariate(rate / HOUR))
 
     def rates(self) -> dict[str, int]:
