@@ -152,7 +152,7 @@ def read_intersection(rows: list[list], title: str) -> dict[str, Any]:
 
 
 def read_pair(table: dict[str, Any], name: str, values: list) -> None:
-    """Takes up a name and its value; the lines of rings are a list."""
+    """Reads a name and its value; the lines of rings are a list."""
     if re.fullmatch("ring [12]", name):
         table.setdefault("rings", []).append(str(values[0]) if values else "")
     elif values:
@@ -160,7 +160,7 @@ def read_pair(table: dict[str, Any], name: str, values: list) -> None:
 
 
 def read_row(block: dict[str, Any], kind: str, name: str, numbers: list, values: list) -> None:
-    """Takes up a line of a block: a value for each number."""
+    """Reads a line of a block: a value for each number."""
     for number, value in zip(numbers, values):
         if value is None or number is None:
             continue
@@ -184,7 +184,7 @@ def read_days(name: str, value: object) -> object:
 
 
 def read_street(rows: list[list], sheet: dict[str, Any]) -> None:
-    """Takes up the page of the street."""
+    """Reads the page of the street."""
     block, header = None, False
     day: dict[str, Any] | None = None
     for row in filled(rows):

@@ -13,7 +13,7 @@ SPLIT_NAMES = ("splits", "coordinated", "modes")
 
 
 def read_split(it: Given, number: int, found: Read, usual: tuple[int, ...] | None, called: str) -> None:
-    """Takes up times, modes and coordinated phases of a split, and gives partners theirs. `usual` are the phases that
+    """Reads times, modes and coordinated phases of a split, and gives partners theirs. `usual` are the phases that
     are coordinated by default; messages name the split as `called` says."""
     said_times = set()
     parts: tuple[tuple[str, fields.Field, int], ...] = (
@@ -91,7 +91,7 @@ def usual_pair(found: Read, number: int) -> tuple[int, ...]:
 
 
 def read_pattern(it: Given, number: int, found: Read, used: dict[int, str]) -> None:
-    """Takes up a pattern, with its splits if they are given with it. For a pattern with a cycle the split defaults to
+    """Reads a pattern, with its splits if they are given with it. For a pattern with a cycle the split defaults to
     the pattern's own number and the sequence to 1."""
     it.allow((*fields.PATTERN_FIELDS, *SPLIT_NAMES))
     in_seconds(it)

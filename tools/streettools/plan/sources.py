@@ -78,7 +78,7 @@ def names_of(path: str, named: str | None) -> names.Names:
 
 
 def read_sheet(source: Source, read: Callable[[], tuple[dict, list[str]]]) -> None:
-    """Takes up a sheet, with what was left out of it."""
+    """Reads a sheet, with what was left out of it."""
     try:
         sheet, notes = read()
     except Unreadable as unreadable:
@@ -116,7 +116,7 @@ def faults_of(text: str, value: Any) -> Iterator[Finding]:
 
 
 def read_json(source: Source, content: bytes, known: names.Names) -> None:
-    """Takes up a scenario or a field file."""
+    """Reads a scenario or a field file."""
     if len(content) > MOST_BYTES:
         source.error(f"expected at most {MOST_BYTES} bytes, found {len(content)}", line="scenario: limit .")
         return

@@ -149,7 +149,7 @@ class Walked:
         self.without.setdefault(key, []).append(oids.dotted(name))
 
     def take(self, name: Name, value: int | bytes) -> None:
-        """Takes up an object."""
+        """Reads an object."""
         cell, rest = cell_of(name), name[BELOW_ASC:]
         if cell is not None:
             self.take_cell(name, cell, value)
@@ -187,7 +187,7 @@ class Walked:
         )
 
     def take_cell(self, name: Name, cell: tuple, value: int | bytes) -> None:
-        """Takes up an object that is a cell, if its value is allowed there."""
+        """Reads an object that is a cell, if its value is allowed there."""
         kind = kinds()[cell]
         if isinstance(kind, Lists):
             fits = isinstance(value, bytes) and len(value) <= kind.longest

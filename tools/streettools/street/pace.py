@@ -5,7 +5,7 @@ from collections.abc import Callable
 
 TICKS_A_SECOND = 10
 MOST_BEHIND = 600
-"""How many ticks are made up for at most after the machine was suspended; any more are left out."""
+"""How many ticks are made up for at most after a pause of the machine; any more are left out."""
 
 
 class Pace:
@@ -29,7 +29,7 @@ class Pace:
         return count
 
     def wait(self) -> float:
-        """Returns in how many seconds the next tick is pending; a quarter of a second if time is stopped."""
+        """Returns in how many seconds the next tick becomes pending; a quarter of a second if time is stopped."""
         return (1 - self.rest) / (TICKS_A_SECOND * self.speed) if self.speed else 0.25
 
     def restart(self) -> None:

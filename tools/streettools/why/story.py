@@ -104,7 +104,7 @@ class Watch:
         self.began = 0
 
     def __call__(self, at: Decided) -> None:
-        """Takes up what a tick decides."""
+        """Processes what a tick decides."""
         number = at.now.number
         if not self.first <= number <= self.last:
             return

@@ -18,7 +18,7 @@ class PhaseDetectors:
         self.on = b"veh %d %d on" % (cabinet, phase)
         self.off = b"veh %d %d off" % (cabinet, phase)
         self.lines: list[tuple[StopLine, int]] = []
-        """Queues that are seen, each with the number of vehicles from which it is."""
+        """The queues to watch, each with the number of vehicles from which its detector sees it."""
         self.until = self.seen = -1.0
         """Until when vehicles that pass are on a detector; the last second at which one was."""
         self.is_on = False

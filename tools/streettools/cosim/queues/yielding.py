@@ -1,5 +1,5 @@
-"""The movements to which a turn gives way, and with which gaps, by the names of movements if the file of volumes
-doesn't say it."""
+"""The movements to which a turn gives way, and its gaps: by the names of movements if the file of volumes doesn't say
+them."""
 
 import re
 

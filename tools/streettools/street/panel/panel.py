@@ -163,7 +163,7 @@ class Panel(Hearer):
                 page.known = self.known()
 
     def known(self) -> tuple[int, int]:
-        """Returns up to what a page knows all after this message: the session, and the last change."""
+        """Returns what a page knows after this message: the session, and its last change."""
         return self.shown.sessions, self.shown.change
 
     def news_behind(self, known: tuple[int, int]) -> dict[str, Any]:
