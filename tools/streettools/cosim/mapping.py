@@ -1,6 +1,6 @@
 """The map of a street: which link of SUMO has which phase of which cabinet, what calls which phase.
 
-A TOML file (docs/COSIM.md). Links are named by their lanes, so that a map of another network is recognized.
+A TOML file (docs/COSIM.md). Links are named by their lanes, so that a map of a different network is detected.
 """
 
 import pathlib
