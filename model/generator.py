@@ -14,7 +14,7 @@ Draw = Callable[[int], int]
 
 
 def draws(seed: int) -> Draw:
-    """Returns what draws the numbers of a seed, one of the numbers from 0 to n - 1 at each call."""
+    """Returns the random generator of a seed: each call gives one of the numbers from 0 to n - 1."""
     state = seed % 2**31
 
     def draw(n: int) -> int:

@@ -34,7 +34,7 @@ def command_now(past: Past) -> tuple[int, int]:
 
 
 def clock_now(past: Past, drift: Drift) -> int:
-    """Returns the clock at the tick that comes: one later than it was or was set to, but for the drift."""
+    """Returns the clock at the coming tick: one later than it was or was set to, except for the drift."""
     number = past.last.number + 1
     rise = 1
     if drift.gain and number % drift.gain == 0:

@@ -1,4 +1,4 @@
-"""The rules 13 to 19 of tables: correction, and defined patterns. Each is asked only where all rules before it hold.
+"""The rules 13 to 19 of tables: correction, and defined patterns. Each is tested only if all rules before it hold.
 
 docs/SCENARIO.md, "The rules of tables".
 """

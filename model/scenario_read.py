@@ -111,7 +111,7 @@ FAULT = [
 
 
 class Items:
-    """The shapes of the items of a scenario, which have a round and a cabinet that there are."""
+    """The shapes of the items of a scenario, which have an existing round and cabinet."""
 
     def __init__(self, rounds: int, cabinets: int) -> None:
         self.common = [Named("round", whole(1, rounds)), Named("cabinet", whole(1, cabinets))]
@@ -176,7 +176,7 @@ TOP = [
 
 
 def content(value: Any, path: str = ".") -> Scenario:
-    """Returns what a value says that is a scenario; else its first fault is raised."""
+    """Returns the scenario that a value is; raises its first fault if it isn't one."""
     known = names_known(value, path, TOP)
 
     def tell(name: str, shape: Any, *default: Any) -> Any:
@@ -209,7 +209,7 @@ def read_scenario(data: bytes) -> Scenario:
 
 
 def read_value(data: bytes) -> Any:
-    """Returns the value of a JSON text; that it is none is a fault."""
+    """Returns the value of a JSON text; raises the fault if it isn't valid JSON."""
     try:
         return read_json(data)
     except NotJson:

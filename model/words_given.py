@@ -80,7 +80,7 @@ def pairs(words: list[str], names: list[str]) -> list[str] | None:
 
 
 def generate(words: list[str], kind: type[Generate] | type[Survey]) -> Command | None:
-    """Returns what is to be generated."""
+    """Returns the command with the seed and the size of the scenario to generate; None if the words aren't valid."""
     told = pairs(words, ["--seed", "--cabinets", "--rounds"])
     if told is None:
         return None

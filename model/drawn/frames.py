@@ -89,7 +89,7 @@ def name_near(draw: Random) -> Oid:
 
 
 def read_frame(draw: Random, community: bytes) -> bytes:
-    """Draws a Get or a GetNext of some names: often of those that tell most of what a cabinet does."""
+    """Draws a Get or a GetNext of some names, often of those with the most information on a cabinet."""
     if draw.random() < 0.6:
         return octets_of(draw, Pdu.GET, [Bind(oid, None) for oid in draw.sample(TELLING, 32)], community)
     count = draw.choice([0, 1, 1, 2, 8, 32])

@@ -82,6 +82,6 @@ def after(street: Street, disturbed: Tick, last: int) -> Iterator[str]:
 
 
 def offset(street: Street) -> Iterator[str]:
-    """Tells what a street shows against this promise."""
+    """Yields the violations of this promise in a street."""
     for disturbed, last in quiet_spans(street):
         yield from after(street, disturbed, last)

@@ -41,7 +41,7 @@ def due(street: Street, it: Interval) -> Span | None:
 
 
 def times(street: Street) -> Iterator[str]:
-    """Tells what a street shows against this promise. What still runs as the trace ends must not have outlasted its
+    """Yields the violations of this promise in a street. What still runs as the trace ends must not have outlasted its
     time."""
     for of_signals in (False, True):
         for it in intervals(street, of_signals):

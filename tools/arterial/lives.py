@@ -136,7 +136,7 @@ class Street:
         return answers
 
     def _typed(self, answer: list[bytes]) -> list[Any]:
-        """Returns the records of an answer's lines, but for journals and rounds; frames are kept."""
+        """Returns the records of an answer's lines, except for journals and rounds; frames are kept."""
         found = [trace_lines.record(line + b"\n") for line in answer if line[:1] not in (b"J", b"R")]
         for it in found:
             if isinstance(it, Frame):
@@ -152,7 +152,7 @@ class Street:
                 self._record.cut()
 
     def _cabinet(self, number: int) -> int:
-        """Returns the number of a cabinet that is there."""
+        """Returns the number of a cabinet, which must exist."""
         if type(number) is not int or not 1 <= number <= self.cabinets:
             raise NoCabinet(f"the session has no cabinet {number!r}: it has {self.cabinets}, numbered from 1")
         return number

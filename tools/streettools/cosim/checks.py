@@ -1,4 +1,4 @@
-"""What is asked of a map before anything runs: by the network, by the tables of the cabinets."""
+"""The checks of a map before anything runs: by the network, by the tables of the cabinets."""
 
 import itertools
 from collections.abc import Callable, Iterator
@@ -164,7 +164,8 @@ def clashes(signal: MappedSignal, network: Network, tables: Tables) -> Iterator[
 
 
 def yielding_in(street: Map, network: Network, scenario: dict[str, Any]) -> Callable[[Link, Link], bool]:
-    """Returns what tells whether a link has a phase under which it yields to another link that may be on then."""
+    """Returns a function that tells whether a link has a phase under which it yields to another link that may be on
+    then."""
     tables = tables_of(scenario)
     signals = {it.id: it for it in street.signals}
 

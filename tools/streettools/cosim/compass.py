@@ -88,7 +88,7 @@ class Compass:
         return [self.crossing(it) if it.turn == CROSSING else self.turn(it) for it in self.links]
 
     def turn(self, link: Link) -> LinkPhase:
-        """Tells of a link of vehicles."""
+        """Returns what is found of a link of vehicles."""
         way = way_of(self.network.edges[link.approach].heading)
         own = self.ways[way]
         place = "" if len(own) == 1 else str(own.index(link.approach) + 1)
@@ -104,7 +104,7 @@ class Compass:
         return self.on_phase(link, name, way)
 
     def crossing(self, link: Link) -> LinkPhase:
-        """Tells of a crossing: it is walked along with the traffic that has it on its right."""
+        """Returns what is found of a crossing: it is walked along with the traffic that has it on its right."""
         crossed = self.network.crossings[link.end.rpartition("_")[0]]
         edges = [self.network.edges[it] for it in crossed if it in self.network.edges]
         coming = [it for it in edges if it.end == link.junction]

@@ -157,7 +157,7 @@ class Detectors:
 
 
 def rows_of(street: Map, areas: Areas, sumo: Any) -> list[Row]:
-    """Returns what calls each phase; a name that SUMO hasn't is refused."""
+    """Returns what calls each phase; refuses a name that SUMO doesn't have."""
     loops, lanes = set(sumo.inductionloop.getIDList()), set(sumo.lanearea.getIDList())
     own: dict[Key, tuple[list[str], list[str]]] = defaultdict(lambda: ([], []))
     for key, names in areas.names.items():

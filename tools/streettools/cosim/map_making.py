@@ -114,7 +114,7 @@ class Maker:
         return "\n".join(parts)
 
     def told(self, signal: str, tables: Tables) -> list[LinkPhase]:
-        """Returns what is found of a signal's links, answers put in."""
+        """Returns what is found of a signal's links, together with the user's answers."""
         program = self.network.programs.get(signal)
         if program is not None and program.kind == "NEMA":
             found = by_nema(self.network, signal)

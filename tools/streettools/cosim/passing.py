@@ -97,7 +97,7 @@ def exits_of(text: str | None, count: int, begin: float) -> list[float | None]:
 
 
 def routes_of(path: pathlib.Path) -> Iterator[tuple[str, list[str], str | None, float]]:
-    """Yields of each vehicle in SUMO's file of routes its name, its edges, when it left them, when it started."""
+    """Yields for each vehicle in SUMO's file of routes its name, its edges, when it left them, and when it started."""
     for _, element in xml.iterparse(path):
         if element.tag == "vehicle":
             route = list(element.iter("route"))[-1]

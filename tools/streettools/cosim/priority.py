@@ -23,7 +23,8 @@ MOVED = 3.0
 
 @dataclass
 class Asking:
-    """A request that is live: of which vehicle, where, its number and phase, when the bus is awaited."""
+    """A live request: its vehicle, its cabinet, its number and phase, when it was made, and the expected arrival of the
+    bus."""
 
     vehicle: str
     cabinet: int

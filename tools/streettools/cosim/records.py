@@ -89,8 +89,8 @@ class QueueSample(NamedTuple):
 
 
 def queue_samples(trips: Iterable[Trip], movements: Iterable[Movement]) -> list[QueueSample]:
-    """Returns how many vehicles waited at each stop line whenever that changed: those that would have passed it, had
-    nothing held them, and hadn't."""
+    """Returns how many vehicles waited at each stop line, whenever that changed: vehicles that would have passed it if
+    nothing had held them, and that hadn't."""
     changes: dict[tuple[int, str], list[tuple[float, int]]] = {(it.cabinet, it.name): [] for it in movements}
     for trip in trips:
         for it in trip.passages:

@@ -87,7 +87,7 @@ def lines_of(said: IO[bytes]) -> Iterator[bytes]:
 
 
 def followed(said: IO[bytes], log: BinaryIO, proof_progress: ProofProgress) -> str | None:
-    """Tells of the crates as the kit says that they are done, and returns the first whose proof failed, if one did."""
+    """Reports each crate when the kit says that it is done, and returns the first whose proof failed, if one did."""
     failed, before = None, []
     for line in lines_of(said):
         log.write(line)

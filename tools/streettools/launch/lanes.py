@@ -102,8 +102,8 @@ def with_jobs(memory: float, jobs: int) -> float:
 
 
 def jobs_for(machine: Machine, running: list[Running], waiting: int, memory: float) -> int:
-    """Returns how many jobs the next of the crates that wait gets, 0 if it has to wait. The first runs however
-    little memory there is."""
+    """Returns how many jobs the next of the waiting crates gets, 0 if it has to wait. The first runs even if memory is
+    short."""
     room = machine.memory - sum(it.memory for it in running)
     if len(running) >= machine.processors or (running and memory > room):
         return 0
@@ -178,8 +178,8 @@ class Lanes:
         self.proof_progress.taken(sorted(self.ended))
 
     def is_proved(self, name: str) -> bool:
-        """Tells whether the library is there that a call has left for the same sources. The kit tests this again as
-        it builds the program."""
+        """Tells whether a call has left the library for the same sources. The kit tests this again as it builds the
+        program."""
         key = self.top / "crates" / name / KEY
         return key.is_file() and key.read_text() == self.keys[name] and (self.top / "crates" / name / RLIB).is_dir()
 

@@ -102,7 +102,7 @@ class Log:
         cabinet.shown(frame)
 
     def moded(self, before, mode, tick):
-        """Keeps what a change of the mode tells: flash, the pattern, its state, the stages of a preempt."""
+        """Keeps the events of a change of the mode: flash, the pattern, its state, the stages of a preempt."""
         if (mode.letter == "X") != (before.letter == "X"):
             self.add(tick, FLASH_STATUS_CHANGE, AUTOMATIC_FLASH if mode.letter == "X" else NOT_FLASH)
         running = {"F": FREE_PATTERN, "X": FLASH_PATTERN, "K": mode.number, "C": mode.number}.get(mode.letter)

@@ -109,7 +109,7 @@ def from_json(value: object, name: str) -> object:
 
 
 def read_value(name: str, value: object) -> object:
-    """Returns what a page's cell says."""
+    """Returns the value of a page's cell."""
     last = (name.split() or [""])[0]
     if last == "conflicts" and isinstance(value, str):
         return from_json(value, name)

@@ -52,6 +52,6 @@ def in_ticks(street: Street) -> Iterator[Finding]:
 
 
 def all_of(street: Street, tables: list[Tables]) -> Iterator[Finding]:
-    """Yields all that is doubtful in the events of a street."""
+    """Yields the doubts about the events of a street."""
     yield from of_requests(street, tables)
     yield from in_ticks(street)

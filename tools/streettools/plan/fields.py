@@ -216,7 +216,7 @@ def words_of(given: object, words: dict[int, str]) -> int:
 
 
 def flag(given: object) -> bool:
-    """Returns what is true or false."""
+    """Reads true or false."""
     if not isinstance(given, bool):
         raise Wrong(f"{given!r} is neither true nor false")
     return given

@@ -70,14 +70,14 @@ class Ring:
         self.at = next((at for at, it in enumerate(phases) if it in laid.coordinated), None)
 
     def cost(self, phase: int, least: int) -> np.ndarray:
-        """Returns what each time of a phase costs."""
+        """Returns the cost of each time of a phase."""
         weight = 0 if phase in self.partners else 1
         costs = weight * np.abs(self.seconds - self.laid.time(phase) // 10).astype(np.int64)
         costs[:least] = NEVER
         return costs
 
     def waited(self, phase: int) -> np.ndarray:
-        """Returns what each time of a phase costs that is neither coordinated nor omitted."""
+        """Returns the cost of each time of a phase that is neither coordinated nor omitted."""
         if self.laid.is_omitted(phase):
             return self.cost(phase, 0)
         return self.cost(phase, ceiling(least_service(self.laid.tables, phase) + self.laid.tables.clearance(phase)))

@@ -99,8 +99,8 @@ def address(host: str, anywhere: bool) -> str:
 
 
 def walk(agent: Agent, advance: Callable[[int], object] = lambda count: None) -> dict[Name, int | bytes]:
-    """Returns the objects of the tables of plans that an agent has. Where an answer would be too big for it, less is
-    asked at once. `advance` is given how many columns are done."""
+    """Returns the objects of the tables of plans that an agent has. If an answer would be too big for it, less is asked
+    at once. `advance` is called with the number of columns that are done."""
     found: dict[Name, int | bytes] = {}
     reached: dict[Name, Name] = {}
     waiting, at_once, end = list(COLUMNS), AT_ONCE, time.monotonic() + MOST_SECONDS

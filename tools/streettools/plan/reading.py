@@ -95,7 +95,7 @@ def read_schedule(top: Given) -> list[dict] | None:
 
 
 def rounds_of(ticks: int) -> Callable[[object], int]:
-    """Returns what reads a time in seconds as a number of rounds."""
+    """Returns a reader of a time in seconds, which gives a number of rounds."""
 
     def read(said: object) -> int:
         found = readers.measure(said) * 10 / ticks

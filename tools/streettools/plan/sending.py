@@ -99,7 +99,7 @@ class Device:
         ]
 
     def read(self, cells: list[Cell]) -> dict[Cell, Value]:
-        """Returns what is in some cells."""
+        """Returns the values of some cells."""
         found: dict[Cell, Value] = {}
         for at in range(0, len(cells), CELLS_OF_A_PART):
             part = cells[at : at + CELLS_OF_A_PART]
@@ -193,8 +193,8 @@ def whole(tables: Tables) -> tuple[Value, ...]:
 
 
 def alike(both: list[tuple[Tables, Tables]]) -> list[list[int]]:
-    """Returns for each intersection, with its tables before and after, the numbers of those that nothing but a name
-    tells from it: whose tables, before or after, are also its own."""
+    """Returns for each intersection, with its tables before and after, the numbers of those that only a name
+    distinguishes from it: whose tables, before or after, are also its own."""
     held = [{whole(before), whole(after)} for before, after in both]
     return [
         [number for number, other in enumerate(held, 1) if other is not mine and other & mine] for mine in held

@@ -23,7 +23,7 @@ class Read:
 
 
 def word_of(*words: str) -> Callable[[object], str]:
-    """Returns what reads one of some words."""
+    """Returns a reader of one of some words."""
 
     def read(it: object) -> str:
         if not isinstance(it, str) or it not in words:

@@ -113,7 +113,7 @@ def of_greens(row: Row) -> Iterator[Finding]:
 
 
 def of_cabinet(tables: Tables, number: int, names: Names) -> Iterator[Finding]:
-    """Yields what is doubtful in the times of the phases of an intersection."""
+    """Yields the doubts about the times of the phases of an intersection."""
     for phase in tables.enabled():
         if phase not in names.intersection(number).partners:
             row = row_of(tables, phase, number, names)

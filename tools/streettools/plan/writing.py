@@ -72,7 +72,7 @@ def say_cell(sheet: dict[str, Any], tables: Tables, cell: tuple) -> None:
 
 
 def say_options(row: dict[str, Any], options: int, usual: int) -> None:
-    """Writes those options of a phase that differ from the usual ones; all of them if there are no usual ones."""
+    """Writes those options of a phase that differ from the usual ones; all of them without usual ones."""
     for name in fields.OPTIONS:
         now = fields.show_option(name, options)
         if now != fields.show_option(name, usual):

@@ -189,7 +189,7 @@ class Given:
         return value
 
     def only(self, names: tuple[str, ...]) -> str:
-        """Returns the one name of several that is there."""
+        """Returns which of several names is given; exactly one must be."""
         self.known.extend(names)
         there = [it for it in names if it in self.table]
         if len(there) != 1:

@@ -86,7 +86,7 @@ class Brought(NamedTuple):
 
 
 class Read(NamedTuple):
-    """A request that was taken: what it brought, and the list and the item, but for its round, that it adds to the
+    """A request that was taken: what it brought, and the list and the item (without its round) that it adds to the
     scenario; none for ticks."""
 
     brought: Brought

@@ -133,7 +133,7 @@ class TraceReader:
 
     def happenings(self, ends: bool = True) -> Iterator[Happening]:
         """Yields what happened: frames, inputs, replies, downloads, notes and ends of rounds, in the order of the
-        trace. Who has no use for the ends of rounds is faster without them."""
+        trace. Reading is faster without the ends of rounds."""
         self.ends, first = ends, 2
         while self.texts is not None:
             texts, at = self.texts, 0
@@ -291,7 +291,7 @@ class TraceReader:
         return over
 
     def over(self) -> Sequence[Happening]:
-        """Returns what a round leaves that is over, and its end, once each cabinet has had its own."""
+        """Returns what a round that is over leaves, and its end, once each cabinet has had its own."""
         if self.whole or (self.round and self.cabinet != self.cabinets):
             raise ValueError
         left = self.left()

@@ -146,7 +146,7 @@ class Opened:
     """The panel, once it is asked for, and its server, once that is open."""
 
     def __init__(self, given: argparse.Namespace) -> None:
-        """Reads what needs packages; one that is missing is raised in words."""
+        """Imports what needs packages; raises Fault if one is missing."""
         try:
             from .panel.panel import Panel
             from .panel.state import PanelState
@@ -160,7 +160,7 @@ class Opened:
         self.server = Server(self.panel, tuple(map(ports.bracketed, names)))
 
     def hearers(self) -> list[Hearer]:
-        """Returns what hears of the street for it."""
+        """Returns the panel's hearers of the street."""
         return [self.state, self.panel]
 
     def hearing(self, asks: ports.Asked) -> ports.Asked:

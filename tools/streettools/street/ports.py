@@ -1,4 +1,4 @@
-"""UDP ports of the agents: each datagram is asked of a cabinet, and what it answers goes back."""
+"""UDP ports of the agents: each datagram goes to a cabinet, and its reply goes back."""
 
 import asyncio
 import contextlib
@@ -92,7 +92,7 @@ def place_of(port: socket.socket) -> Place:
 
 
 class Wire:
-    """What is between a port and managers: nothing, but for a bad line and a record of messages."""
+    """What is between a port and managers: nothing, except for a bad line and a record of messages."""
 
     def __init__(self, line: Line | None = None, keep: Callable[[Passed], None] | None = None) -> None:
         self.line, self.keep = line, keep

@@ -43,7 +43,7 @@ class Requests:
     """The file of the requests of a session. It holds whole lines at every time, those up to the last ticks."""
 
     def __init__(self, path: pathlib.Path) -> None:
-        """Makes the file; one that is there gets the same name with ~ at its end. A link is not followed."""
+        """Makes the file; an existing one is renamed with ~ at the end of its name. A link is not followed."""
         self.path = path
         if path.is_dir():
             raise IsADirectoryError(errno.EISDIR, "Is a directory", str(path))

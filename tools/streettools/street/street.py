@@ -44,7 +44,7 @@ class Hearer:
     called = "what hears of the street"
     """What a fault is said to be in."""
     stride = 600
-    """How many ticks may be taken at once before it is asked for inputs."""
+    """How many ticks may be taken at once before inputs are asked for."""
 
     def began(self, scenario: dict[str, Any]) -> None:
         """A session begins."""
@@ -222,8 +222,8 @@ class Street:
             count -= now
 
     def ticks_left(self) -> int:
-        """Returns how many ticks are left until the session changes: some before its last one, so that there is time
-        to read what is carried over. A session with which the street ends doesn't change."""
+        """Returns how many ticks are left until the session changes: that is some ticks before its last one, which
+        leaves time to read what is carried over. A session with which the street ends doesn't change."""
         total: int = self.scenario["rounds"] * self.scenario["ticks"]
         return MOST_TICKS if self.stops_at_end else max(0, total - min(total // 4, SPARE) - self.session.taken)
 

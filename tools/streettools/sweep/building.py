@@ -36,7 +36,8 @@ class Built:
     queued: Queued | None = None
 
     def name(self) -> str:
-        """Returns what tells this scenario from others: the first 16 digits of the SHA-256 of its text."""
+        """Returns the name that distinguishes this scenario from others: the first 16 digits of the SHA-256 of its
+        text."""
         return hashlib.sha256(self.text).hexdigest()[:16]
 
     def streams(self) -> list[Stream]:
@@ -74,7 +75,7 @@ class Builder:
         return parsed(self.asked(["generate", *given], b""), "generate")
 
     def asked(self, words: list[str], text: bytes) -> bytes:
-        """Returns what the program answers to a base that it has to make first."""
+        """Returns the program's answer for a base that it has to make first."""
         answer = ran(self.program, *words, given=text)
         if answer.status:
             raise Fault(f"{' '.join(words)}: {answer.said}")

@@ -42,7 +42,7 @@ class Papers:
     key: Path
 
     def security(self) -> Any:
-        """Returns what Dask makes of them."""
+        """Returns Dask's own form of these files."""
         for file in (self.authority, self.certificate, self.key):
             if not file.is_file():
                 raise Fault(f"{file}: no such file", Status.FILE)

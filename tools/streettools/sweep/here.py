@@ -148,7 +148,7 @@ class Here(Crew):
         ticket.add_done_callback(over)
 
     def done(self, indexes: list[int]) -> Rows:
-        """Returns what a worker makes of some variants; one that dies is replaced."""
+        """Returns a worker's results of some variants; a worker that dies is replaced."""
         worker = self.idle.get()
         try:
             for _ in range(TRIES):

@@ -45,7 +45,7 @@ class Outcome(enum.StrEnum):
 
 @dataclass(frozen=True)
 class Run:
-    """A run, as a measure of one's own is given it."""
+    """A run, as it is passed to a user's own measure."""
 
     scenario: dict[str, Any]
     trace: bytes

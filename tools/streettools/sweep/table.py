@@ -1,4 +1,4 @@
-"""Writes the table of a sweep: CSV, or Parquet where Python's pyarrow is there. Line by line, so any number of runs
+"""Writes the table of a sweep: CSV, or Parquet if Python's pyarrow is installed. Line by line, so any number of runs
 fits into memory."""
 
 import csv

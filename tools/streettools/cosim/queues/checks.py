@@ -115,7 +115,7 @@ def names_are_known(volumes: Volumes) -> None:
 
 
 def profiles_cover(volumes: Volumes, scenario: dict[str, Any], seconds: float) -> None:
-    """Refuses a profile that says nothing of some time of the run."""
+    """Refuses a profile that doesn't cover some time of the run."""
     used = {it.profile for it in all_of(volumes) if it.profile is not None}
     start = starts_at(scenario)
     for name in sorted(used):

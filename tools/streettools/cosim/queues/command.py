@@ -64,7 +64,7 @@ def parser() -> argparse.ArgumentParser:
 
 
 def asked_of(words: argparse.Namespace, seconds: float) -> Asked:
-    """Returns what the options ask of a run."""
+    """Returns the settings of a run by the options."""
     step = STEPS[words.step]
     if round(seconds * 10) % step:
         raise Fault(f"{seconds:g} s is not a whole number of steps of {words.step} s")

@@ -150,7 +150,7 @@ def saturation_of(given: Given, usual: Saturation) -> Saturation:
 
 
 def detectors_of(given: Given, usual: Detectors) -> Detectors:
-    """Reads what sees vehicles."""
+    """Reads the detectors of vehicles."""
     found = Detectors(
         given.take("stop_detector", bool, usual.stop),
         given.within("ahead", NUMBER, 0, 30, usual.ahead),
@@ -161,7 +161,7 @@ def detectors_of(given: Given, usual: Detectors) -> Detectors:
 
 @dataclass(frozen=True)
 class Usual:
-    """What holds for a movement that says nothing else."""
+    """The defaults of a movement."""
 
     saturation: Saturation
     detectors: Detectors

@@ -65,8 +65,8 @@ def planes(numbers: array) -> bytes:
 
 
 def packed(cabinets: list[dict[str, Table]]) -> tuple[dict[str, list[int]], str]:
-    """Returns how many rows each cabinet has in each table, and all columns: a column of all cabinets after another,
-    deflated, as base64."""
+    """Returns how many rows each cabinet has in each table, and all columns: the columns of all cabinets one after
+    another, deflated, as base64."""
     counts = {name: [len(tables[name]) for tables in cabinets] for name in FIELDS}
     squeezer, parts = zlib.compressobj(9), []
     for name, fields in FIELDS.items():

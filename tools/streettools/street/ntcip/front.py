@@ -99,8 +99,8 @@ class Cabinet:
     # what is read
 
     async def got(self, asked: Message) -> list[Binding]:
-        """Returns the values of objects; in version 1 one that there is none of is a fault, later it is said in its
-        place."""
+        """Returns the values of objects. In version 1 a missing object is a fault; in later versions it is reported in
+        place of its value."""
         names = [it.arcs for it in asked.bindings]
         own = {name: await OBJECTS[name](self.front) for name in names if name in OBJECTS}
         others = list(dict.fromkeys(name for name in names if name not in own))

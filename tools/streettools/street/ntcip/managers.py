@@ -47,12 +47,12 @@ class Copies:
         self.of = collections.OrderedDict()
 
     def answered(self, manager: Manager, number: int, octets: bytes) -> Answered | None:
-        """Returns what the first copy of a Set was answered, None if there was none."""
+        """Returns the answer to the first copy of a Set, None if there was none."""
         digest, answered, when = self.of.get((manager, number), (b"", (0, 0), 0.0))
         return answered if digest == digest_of(octets) and time.monotonic() <= when + SECONDS else None
 
     def keep(self, manager: Manager, number: int, octets: bytes, answered: Answered) -> None:
-        """Keeps what a Set was answered."""
+        """Keeps the answer to a Set."""
         keep(self.of, (manager, number), (digest_of(octets), answered, time.monotonic()))
 
     def begins_anew(self, answered: Answered) -> None:

@@ -47,7 +47,7 @@ Read = Callable[[Front], Awaitable[Field]]
 
 
 def constant(value: Field) -> Read:
-    """Returns what reads a value that doesn't change."""
+    """Returns a reader of a value that doesn't change."""
 
     async def read(front: Front) -> Field:
         return value
@@ -56,7 +56,7 @@ def constant(value: Field) -> Read:
 
 
 def kept(told: Callable[[Front], Field]) -> Read:
-    """Returns what reads a value that the front keeps."""
+    """Returns a reader of a value that the front keeps."""
 
     async def read(front: Front) -> Field:
         return told(front)
@@ -65,7 +65,7 @@ def kept(told: Callable[[Front], Field]) -> Read:
 
 
 def by_stage(told: Callable[[Transaction], Field]) -> Read:
-    """Returns what reads a value of the transaction, which follows the cabinet's stage."""
+    """Returns a reader of a value of the transaction, which follows the cabinet's stage."""
 
     async def read(front: Front) -> Field:
         await front.transaction.look()
@@ -180,17 +180,17 @@ def modules() -> dict[Arcs, Read]:
 
 
 def detectors(group: int) -> Read:
-    """Returns what reads which vehicle detectors of a group are on, as bits."""
+    """Returns a reader of the vehicle detectors of a group that are on, as bits."""
     return kept(lambda front: whole(front.street.inputs.bits(front.cabinet, group - 1)))
 
 
 def people(group: int) -> Read:
-    """Returns what reads the bits of the calls of people that were set last."""
+    """Returns a reader of the bits of the calls of people that were set last."""
     return kept(lambda front: whole(front.people[group - 1]))
 
 
 def preempt(number: int) -> Read:
-    """Returns what reads whether the input of a preempt is on."""
+    """Returns a reader of whether the input of a preempt is on."""
     return kept(lambda front: whole(int(front.street.inputs.is_on("preempt", front.cabinet, number))))
 
 

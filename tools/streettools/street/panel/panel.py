@@ -134,7 +134,7 @@ class Panel(Hearer):
         return int(scenario.get("master", {}).get("clock") or scenario["cabinets"][0].get("clock", 0))
 
     def state(self) -> dict[str, Any]:
-        """Returns what every text tells: the speed, the switches, the streams, and how the street ended."""
+        """Returns the contents of every text: the speed, the switches, the streams, and how the street ended."""
         return {
             "speed": self.street.pace.speed,
             "step": self.street.after_message,

@@ -117,7 +117,7 @@ class PanelState(Hearer):
             self.take(line.decode("ascii"))
 
     def exchanged(self, cabinet: int, octets: bytes, reply: bytes | None) -> None:
-        """Takes what management software has asked and was answered."""
+        """Takes a request of management software and its reply."""
         self.asked.append((self.ticks, cabinet, octets, reply))
 
     async def put_in_words(self) -> None:
@@ -157,7 +157,7 @@ class PanelState(Hearer):
         }
 
     def outdated(self) -> list[int]:
-        """Returns the cabinets whose tables in force are others than those by which they are laid out."""
+        """Returns the cabinets whose tables in force differ from those of their layout."""
         pairs = zip(self.cabinets, self.facts)
         return [number for number, (shown, facts) in enumerate(pairs, 1) if shown.version != facts["version"]]
 

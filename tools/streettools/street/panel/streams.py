@@ -12,7 +12,7 @@ MOST = 3600
 
 @dataclass
 class Stream:
-    """Vehicles on a detector: when the next comes, and when the one that is there leaves."""
+    """Vehicles on a detector: when the next arrives, and when the present one leaves."""
 
     rate: int
     next: float
