@@ -86,7 +86,7 @@ class Part:
 
 @dataclass(frozen=True)
 class Verify:
-    """A download of so many parts is to be judged."""
+    """The request to verify a download of `total` parts."""
 
     load: int
     total: int
@@ -127,7 +127,7 @@ def request_of(value: Value) -> Request | None:
 
 
 def order_of(binds: list[Bind], place: int, tables: Tables) -> Order:
-    """Returns what a binding of a Set that is no download asks for."""
+    """Returns what a binding of a Set asks for, if the Set isn't part of a download."""
     name, value = NAMES.get(binds[place].oid), binds[place].value
     if name is Scalar.PATTERN_CONTROL:
         pattern = whole(binds, place, 0, FLASH)
@@ -198,7 +198,7 @@ class Ask:
 
 
 def ask_of(octets: bytes, community: bytes, tables: Tables) -> Ask | None:
-    """Returns what a frame asks for; None where the cabinet stays silent."""
+    """Returns what a frame asks for; None if the cabinet stays silent."""
     message = read(octets)
     if message is None or message.community != community or message.pdu is Pdu.RESPONSE:
         return None
@@ -206,7 +206,7 @@ def ask_of(octets: bytes, community: bytes, tables: Tables) -> Ask | None:
 
 
 def fault_of(wish: Wish, outcome: Outcome | None) -> Fault | None:
-    """Returns the fault that a Set is answered; None where it was done."""
+    """Returns the fault that a Set is answered; None if it was done."""
     if isinstance(wish, Fault):
         return wish
     answer = outcome.answer if outcome else None

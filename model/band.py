@@ -1,4 +1,4 @@
-"""The greatest through bands of a street's plan, each way.
+"""The widest progression bands of a street's plan, each way.
 
 docs/BANDS.md. Each time of the cycle is tested.
 """
@@ -52,7 +52,7 @@ class Street:
 
 
 def street_of(says: dict[str, Any]) -> Street:
-    """Returns the street that is asked of; what stands against any band is raised."""
+    """Returns the street of a question; raises the fault if it can't have a band."""
     scenario: Scenario = says["scenario"]
     number = says["pattern"]
     members = [(n, it.tables) for n, it in enumerate(scenario.cabinets, 1) if it.section == says["section"]]
@@ -76,12 +76,12 @@ def window(street: Street, tables: Tables, ring: int) -> set[int]:
 
 
 def band_line(street: Street, is_inbound: bool) -> bytes:
-    """Returns the line of the greatest band one way: the widest, of equal ones the earliest."""
+    """Returns the line of the widest progression band one way; of equal ones, the earliest."""
     passages, cycle = street.passages(is_inbound), street.cycle
     windows = {it.cabinet: window(street, it.tables, 2 if is_inbound else 1) for it in passages}
 
     def closed(time: int) -> int | None:
-        """Returns the first cabinet whose window lacks a time; None where the time is open."""
+        """Returns the first cabinet whose window lacks a time; None if the time is open."""
         return next((it.cabinet for it in passages if (time + it.after) % cycle not in windows[it.cabinet]), None)
 
     is_open = [closed(time) is None for time in range(cycle)]

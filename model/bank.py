@@ -1,6 +1,6 @@
 """The vehicle detectors of a field file: when each calls, and which of its edges count.
 
-docs/FIELD-FILE.md, "What a detector calls". Each is told by looking back over the rounds.
+docs/FIELD-FILE.md, "What a detector calls". Each is found by looking back over the rounds.
 """
 
 from dataclasses import dataclass, field
@@ -25,7 +25,7 @@ class BankItem:
 
 @dataclass
 class Rounds:
-    """What a detector's pulses come to, round by round; the place 0 is before all rounds."""
+    """The results of a detector's pulses, round by round; the place 0 is before all rounds."""
 
     is_pulsed: list[bool] = field(default_factory=lambda: [False])
     is_active: list[bool] = field(default_factory=lambda: [False])
@@ -33,7 +33,7 @@ class Rounds:
 
 
 def rounds_of(pulses: list[list[bool]]) -> Rounds:
-    """Returns what the pulses of each round from 1 on come to."""
+    """Returns the results of the pulses of each round from 1 on."""
     told, is_on = Rounds(), False
     for given in pulses:
         edges = 0
@@ -55,7 +55,7 @@ def in_a_row(holds: list[bool], number: int) -> int:
 
 
 def rows_of(holds: list[bool]) -> list[int]:
-    """Returns `in_a_row` of each round; one more than in the round before where it holds."""
+    """Returns `in_a_row` of each round; if it holds, one more than in the round before."""
     counts = [0]
     for held in holds[1:]:
         counts.append(counts[-1] + 1 if held else 0)

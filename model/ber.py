@@ -1,8 +1,8 @@
 """Lengths, numbers, texts and names as octets, both ways.
 
-ITU-T X.690 as RFC 1157 takes it; docs/DEFINITIONS.md, "Messages (RFC 1157, ITU-T X.690)". A reader takes the octets
-and the place at which a field begins, and returns the field and the place behind it; octets that aren't the field's
-are told by `Unreadable`.
+ITU-T X.690 as RFC 1157 takes it; docs/DEFINITIONS.md, "Messages (RFC 1157, ITU-T X.690)". A reader takes the octets and
+the place at which a field begins, and returns the field and the place after it. It raises `Unreadable` if the octets
+aren't a field of this type.
 """
 
 import functools
@@ -14,17 +14,17 @@ MOST_ARCS = 32
 
 
 class Unreadable(Exception):
-    """The octets are not what is to be read."""
+    """The octets aren't the expected field."""
 
 
 def demand(holds: bool) -> None:
-    """Gives up where something that must hold doesn't."""
+    """Raises Unreadable if a condition doesn't hold."""
     if not holds:
         raise Unreadable
 
 
 def read_length(octets: bytes, at: int) -> tuple[int, int]:
-    """Reads a length: one octet below 128, or 81 to 84 with so many octets behind it. The indefinite form is none."""
+    """Reads a length: one octet below 128, or 81 to 84 followed by 1 to 4 octets. The indefinite form is invalid."""
     demand(at < len(octets))
     first = octets[at]
     if first < 0x80:
@@ -84,7 +84,7 @@ def number_field(number: int) -> bytes:
 
 
 def arc_octets(arc: int) -> bytes:
-    """Returns the octets of an arc behind the first two: seven bits each, all but the last with the high bit."""
+    """Returns the octets of an arc after the first two: seven bits each, all but the last with the high bit."""
     octets = [arc & 0x7F]
     while arc := arc >> 7:
         octets.append(arc & 0x7F | 0x80)

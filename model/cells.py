@@ -80,14 +80,14 @@ COLUMNS: dict[Table, dict[int, Holds]] = {
 
 
 class Misfit(Enum):
-    """Why a value can't stand in a cell."""
+    """Why a value isn't allowed in a cell."""
 
     KIND = "kind"
     RANGE = "range"
 
 
 def holds(cell: Cell) -> Holds | None:
-    """Returns what a cell holds; None where there is no such cell."""
+    """Returns what a cell holds; None if the cell doesn't exist."""
     rows = ROWS[cell.table]
     if not (1 <= cell.row <= rows if rows else cell.row == 0):
         return None
@@ -97,7 +97,7 @@ def holds(cell: Cell) -> Holds | None:
 
 
 def misfit(cell: Cell, value: Value) -> Misfit | None:
-    """Returns why a value can't stand in a cell that there is; None where it can."""
+    """Returns why a value isn't allowed in an existing cell; None if it is allowed."""
     what = holds(cell)
     if isinstance(what, Octets):
         if not isinstance(value, bytes):

@@ -1,7 +1,7 @@
 """Whether a text is a trace; else its first fault.
 
-docs/TRACE.md, "Checking a trace". Each line is compared with the one that is due behind the lines before it, whose
-journals are taken.
+docs/TRACE.md, "Checking a trace". Each line is compared with the one that is expected after the lines before it, whose
+journals are used.
 """
 
 from model.lines import head, is_line, runs_of
@@ -41,13 +41,13 @@ class Text:
         return piece
 
     def expect(self, due: bytes) -> None:
-        """Takes the line that is due."""
+        """Reads a line, which must be the expected one."""
         read = self.next()
         if read != due:
             raise Fault(self.line, RULES.get(due[:1], 4) if head(read) == head(due) else 4)
 
     def journal(self, due: JournalDue) -> Runs:
-        """Takes a J line that may stand here, and returns its journal."""
+        """Reads a J line, which must be allowed here, and returns its journal."""
         read = self.next()
         if head(read) != [b"J", b"%d" % due.cabinet]:
             raise Fault(self.line, 4)

@@ -46,7 +46,7 @@ def first_other_line(one: bytes, two: bytes) -> str:
 
 
 def compared(program: Path, case: Case) -> Difference | None:
-    """Returns how program and model differ on a case; None where they agree, and the trace of a run keeps all
+    """Returns how program and model differ on a case; None if they agree, and the trace of a run keeps all
     promises."""
     due: Answer = answer(case.words, case.data)
     status, output, said = program_answer(program, case)
@@ -60,7 +60,7 @@ def compared(program: Path, case: Case) -> Difference | None:
 
 
 def broken_by_trace(case: Case, output: bytes) -> Difference | None:
-    """Returns what is wrong with the trace that a run wrote, or that a session comes to, None where nothing is."""
+    """Returns what is wrong with the trace that a run wrote, or that a session results in, None if nothing is."""
     if case.words == ["live"]:
         output = trace_of_session(case.data, output)
         if told := answer(["check"], output).said:
@@ -109,7 +109,7 @@ def smaller_cases(case: Case) -> Iterator[Case]:
 
 
 def shrunk(case: Case, differs: Callable[[Case], bool], tries: int = MOST_TRIES) -> Case:
-    """Returns a smaller case that still differs, as small as so many tries make it."""
+    """Returns a smaller case that still differs, as small as this number of tries makes it."""
     left = tries
     is_smaller = True
     while is_smaller and left > 0:

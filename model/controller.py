@@ -1,4 +1,4 @@
-"""A cabinet's controller: what is told to it, and its ticks.
+"""A cabinet's controller: what it receives, and its ticks.
 
 docs/DEFINITIONS.md, "A history, and looking back over it": `Event`.
 """
@@ -34,7 +34,7 @@ class Controller:
         return now, now.frame.shows_other(before) or now.frame.is_local_zero(before)
 
     def detector(self, p: int, on: bool) -> None:
-        """A vehicle detector goes on or off."""
+        """A vehicle detector turns on or off."""
         past = self.past
         past.told.calls = calls.with_detector(past.told.calls, p, on, past.tables, past.last.frame)
 
@@ -44,7 +44,7 @@ class Controller:
         past.told.calls = calls.with_button(past.told.calls, p, past.tables, past.last.frame)
 
     def preempt(self, number: int, on: bool) -> None:
-        """The input of a preempt goes on or off."""
+        """The input of a preempt turns on or off."""
         inputs = self.past.told.inputs
         self.past.told.inputs = inputs | {number} if on else inputs - {number}
 

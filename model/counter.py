@@ -1,8 +1,8 @@
 """The counter of a pattern's cycle, and how it is corrected.
 
-docs/DEFINITIONS.md, "A tick: coordination": `next_counter`; docs/SCENARIO.md, the units 1 to 4. What is kept of the
-counters since the last local zero or pickup are how many steps stood, how many skipped, and whether the last one
-changed the counter.
+docs/DEFINITIONS.md, "A tick: coordination": `next_counter`; docs/SCENARIO.md, the units 1 to 4. Of the steps since the
+last local zero or pickup are kept: how many held the counter, how many skipped, and whether the last one changed the
+counter.
 """
 
 from dataclasses import dataclass
@@ -15,7 +15,7 @@ DWELL, SHORTWAY, ADD_ONLY = 2, 3, 4
 
 @dataclass(frozen=True)
 class Cycle:
-    """The steps since the counter last came to 0, or the pattern was picked up. A pickup counts as a change."""
+    """The steps since the counter last became 0, or the pattern was picked up. A pickup counts as a change."""
 
     stands: int = 0
     skips: int = 0
@@ -39,7 +39,7 @@ def correction(tables: Tables) -> Correction:
 
 
 def step(may: Correction, laid: Plan, counter: int, target: int, cycle: Cycle) -> int:
-    """Returns by how much the counter goes on: 1, as time does, 0 or 2."""
+    """Returns by how much the counter advances: 1, as time does, 0 or 2."""
     early = (target - counter - 1) % laid.cycle
     if early == 0 or counter >= laid.window:
         return 1

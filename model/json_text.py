@@ -1,8 +1,8 @@
 """JSON texts: how they are read, and the compact text of a value.
 
-RFC 8259; docs/SCENARIO.md, "What is refused, and how". A number is whole where it is written without fraction and
-exponent, isn't `-0` and has at most 64 bits; every other number is of another kind. Lists and objects may be 127
-deep. Of two equal names the last counts.
+RFC 8259; docs/SCENARIO.md, "What is refused, and how". A number is whole if it is written without fraction and
+exponent, isn't `-0` and has at most 64 bits; every other number is of another kind. Lists and objects may be 127 deep.
+Of duplicate names the last counts.
 """
 
 import json
@@ -13,7 +13,7 @@ MOST_DEPTH = 127
 
 
 class NotJson(Exception):
-    """The bytes are no JSON text."""
+    """The bytes aren't valid JSON."""
 
 
 class Other:
@@ -28,7 +28,7 @@ def whole_or_other(digits: str) -> "int | Other":
 
 
 def other(digits: str) -> Other:
-    """Returns a number of another kind; one that no number of the machine comes near is no JSON here."""
+    """Returns a number that isn't whole, or isn't in range; one that overflows a float isn't valid JSON here."""
     if math.isinf(float(digits)):
         raise NotJson
     return Other()
@@ -40,7 +40,7 @@ def no_constant(_word: str) -> None:
 
 
 def is_too_deep(text: str) -> bool:
-    """Tells whether lists and objects stand deeper in each other than they may."""
+    """Tells whether lists and objects are nested too deep."""
     depth, is_text, is_escaped = 0, False, False
     for letter in text:
         if is_text:
@@ -58,7 +58,7 @@ def is_too_deep(text: str) -> bool:
 
 
 def has_lone_surrogate(value: Any) -> bool:
-    """Tells whether a text in a value has half of a pair of escapes, which stands for no character."""
+    """Tells whether a text in a value has half of a surrogate pair, which isn't a character."""
     if isinstance(value, str):
         return any("\ud800" <= letter <= "\udfff" for letter in value)
     if isinstance(value, list):

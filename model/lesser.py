@@ -11,14 +11,14 @@ from model.words import Mode, Signal
 
 
 def hurry(past: Past, mode: Mode, goal: frozenset[int] | None, p: int) -> Preempt | None:
-    """Returns the row of the preempt for which a phase makes way, None where it has its full times."""
+    """Returns the row of the preempt for which a phase makes way, None if it has its full times."""
     number = stage_of(mode)
     return preempt(past.tables, number) if number and p not in (goal or ()) else None
 
 
 def signal_next(past: Past, p: int, row: Preempt | None) -> Signal:
-    """Returns the signal that follows where none begins: Walk, then flashing for the clearance, then none; the last
-    two don't show where they have no time."""
+    """Returns the signal that follows if none begins: Walk, then flashing for the clearance, then none. If the
+    clearance has no time, the flashing is left out."""
     shown = past.last.frame.signals.of[p]
     if shown is Signal.DONT:
         return shown
@@ -35,7 +35,7 @@ def signal_next(past: Past, p: int, row: Preempt | None) -> Signal:
 
 
 def has_least_green(past: Past, p: int, row: Preempt | None) -> bool:
-    """Tells whether a Green phase has had its least green."""
+    """Tells whether a Green phase has had its minimum green."""
     least = rows(past.latched(p))[p].least_green
     if row is not None:
         least = max(1, min(least, row.least_green))
@@ -43,5 +43,5 @@ def has_least_green(past: Past, p: int, row: Preempt | None) -> bool:
 
 
 def is_served(past: Past, p: int, row: Preempt | None) -> bool:
-    """Tells whether a Green phase has had its least green, and no walk or pedestrian clearance of it runs on."""
+    """Tells whether a Green phase has had its minimum green, and its walk or pedestrian clearance isn't running."""
     return has_least_green(past, p, row) and signal_next(past, p, row) is Signal.DONT

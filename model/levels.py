@@ -36,7 +36,7 @@ class Rule:
 
 
 def level_after(rule: Rule, level: int, volume: int) -> int:
-    """Returns the level behind a period with a volume."""
+    """Returns the level after a period with a volume."""
     reached = [it for it, step in enumerate(rule.steps, 1) if it > level and step.up <= volume]
     if reached:
         return max(reached)
@@ -54,8 +54,8 @@ def volume(scenario: Scenario, section: int, edges: dict[BankItem, list[int]], r
 def entries(
     scenario: Scenario, period: int, rules: list[Rule], edges: dict[BankItem, list[int]]
 ) -> list[dict[str, Any]]:
-    """Returns the entries of the schedule: the pattern of each section in round 1, and in the first round behind
-    each full period where it is another than before."""
+    """Returns the entries of the schedule: the pattern of each section in round 1, and in the first round after each
+    full period if the pattern has changed."""
 
     def entry(number: int, rule: Rule, level: int) -> dict[str, Any]:
         return {"second": master_clock(scenario, number) // 10, "section": rule.section, "pattern": rule.pattern(level)}

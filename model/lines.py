@@ -28,7 +28,7 @@ def refused_line(cabinet: int, load: int, broken: Broken) -> bytes:
 
 
 def reply_line(cabinet: int, stream: int, reply: bytes | None) -> bytes:
-    """Returns the A line of a frame that was answered or met with silence."""
+    """Returns the A line of a frame that was answered or ignored."""
     return f"A {cabinet} {stream} {'-' if reply is None else reply.hex()}".encode()
 
 
@@ -95,7 +95,7 @@ def runs_of(line: bytes) -> list[tuple[int, int]]:
 
 
 def are_longest(runs: list[tuple[int, int]]) -> bool:
-    """Tells whether runs are those of a J line: none is empty, and no two of one pass stand side by side."""
+    """Tells whether runs are those of a J line: none is empty, and no two neighbours are of one pass."""
     if any(count == 0 or count >= 1 << 32 or stream >= 1 << 32 for stream, count in runs):
         return False
     return all(one[0] != two[0] for one, two in zip(runs, runs[1:]))
@@ -111,6 +111,6 @@ def is_line(line: bytes) -> bool:
 
 
 def head(line: bytes) -> list[bytes]:
-    """Returns what must agree for two lines to differ in their fields alone: the kind, and the cabinet or the number
-    of a round."""
+    """Returns what must be equal if two lines differ only in their fields: the kind, and the cabinet or the number of a
+    round."""
     return line.split(b" ", 2)[:2]

@@ -15,7 +15,7 @@ def is_good(cabinet: int) -> bytes:
 
 
 def has_pattern(cabinet: int, pattern: int) -> bytes:
-    """Returns the note that a cabinet has acknowledged a pattern, another than before."""
+    """Returns the note that a cabinet has acknowledged a pattern different from the one before."""
     return b"M %d pattern %d" % (cabinet, pattern)
 
 

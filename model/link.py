@@ -59,7 +59,8 @@ class Link:
             self.requests[item.cabinet, item.round].append(write(message))
 
     def carry(self, line: Line, number: int, frames: list[bytes]) -> list[bytes]:
-        """Returns what arrives of the frames of a round: each after its fault, then the late copies that are due."""
+        """Returns what arrives of the frames of a round: each after its fault, then the late copies that arrive in this
+        round."""
         arrived: list[bytes] = []
         for place, frame in enumerate(frames):
             fault = self.faults.get((line, number, place))

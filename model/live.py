@@ -1,4 +1,4 @@
-"""The command `live`: lines come in, and each is answered before the next is read.
+"""The command `live`: it reads lines, and answers each before the next is read.
 
 docs/LIVE.md, "Answers" and "How a session ends".
 """
@@ -20,14 +20,14 @@ class Line:
 
 
 class Lines:
-    """Lines out of pieces of input. Of a line that is too long one octet more is kept than it may have."""
+    """Lines out of pieces of input. Of a line that is too long, one byte more is kept than it may have."""
 
     def __init__(self, read: Callable[[], bytes]) -> None:
         self.read = read
         self.held = bytearray()
 
     def next(self, most: int) -> Line:
-        """Returns the next line, which may have so many octets; at the end of input what is left of one."""
+        """Returns the next line, which has at most `most` bytes; at the end of input, the incomplete rest of one."""
         seen = 0
         while (end := self.held.find(b"\n", seen)) < 0:
             del self.held[most + 1 :]
@@ -53,5 +53,5 @@ def live(read: Callable[[], bytes]) -> Iterator[bytes]:
 
 
 def text_of(answer: Iterator[bytes]) -> bytes:
-    """Returns the text of an answer, with the dot behind it."""
+    """Returns the text of an answer, with the dot after it."""
     return b"".join(line + b"\n" for line in answer) + b".\n"

@@ -26,7 +26,7 @@ POLLED: list[Oid] = [
 
 
 class Due(Enum):
-    """The commands that may be due, the first first."""
+    """The commands that may be pending, in the order in which they are sent."""
 
     PATTERN = 1
     CLOCK = 2
@@ -97,7 +97,7 @@ class Master:
         return [] if had_failed else [fails(self.number)]
 
     def set_flags(self, number: int, pattern: int | None) -> None:
-        """Notes what is due in a round."""
+        """Notes which commands become pending in a round."""
         master = self.scenario.master
 
         def is_its_round(every: int) -> bool:
@@ -112,8 +112,7 @@ class Master:
             self.flags.add(Due.POLL)
 
     def command_frame(self, clock: int, pattern: int | None) -> list[bytes]:
-        """Returns the frame of the command that is under way, sent again under a new id, else of the first that is
-        due."""
+        """Returns the frame of the open command, repeated under a new id; if none is open, of the first pending one."""
         if self.open is not None:
             kind, tries = self.open.kind, self.open.tries + 1
         elif self.flags:

@@ -1,7 +1,7 @@
 """The objects of a cabinet's agent: their names, and the order in which GetNext goes through them.
 
-mibs/ARTERIAL-PROFILE-MIB names each; docs/SNMP-CONFORMANCE.md. A name is a tuple of arcs; the readable
-ones stand in one list in lexicographic order.
+mibs/ARTERIAL-PROFILE-MIB names each; docs/SNMP-CONFORMANCE.md. A name is a tuple of arcs; the readable ones are in one
+list in lexicographic order.
 """
 
 import bisect
@@ -17,7 +17,7 @@ OWN: Oid = (1, 3, 6, 1, 4, 1, 32473, 1)
 
 
 class Scalar(Enum):
-    """The objects that are no cells and no rows of groups."""
+    """The objects that are neither cells nor rows of groups."""
 
     PATTERN_STATUS = ASC + (4, 10, 0)
     PATTERN_CONTROL = ASC + (4, 14, 0)
@@ -135,6 +135,6 @@ def is_readable(oid: Oid) -> bool:
 
 
 def next_oid(oid: Oid) -> Oid | None:
-    """Returns the first readable name that comes after a name; None where there is none."""
+    """Returns the first readable name that comes after a name; None if there is none."""
     place = bisect.bisect_right(READABLE, oid)
     return READABLE[place] if place < len(READABLE) else None

@@ -1,4 +1,4 @@
-"""The pattern in command, the clock, and where a pattern's counter is to stand by it.
+"""The pattern in command, the clock, and the target of a pattern's counter, which follows from it.
 
 docs/DEFINITIONS.md, "A tick: command, clock and mode": `command_now`, `is_backed_up`, `clock_now`, `rise_at`,
 `target_at`; docs/SCENARIO.md, `gain` and `lose`.
@@ -16,15 +16,15 @@ BACKUP_TIME = 5
 
 @dataclass(frozen=True)
 class Drift:
-    """After so many ticks each time a clock goes on by one tick more, or stands still for one; 0 is never."""
+    """At each multiple of this number of ticks a clock advances by one tick more, or stops for one; 0 is never."""
 
     gain: int = 0
     lose: int = 0
 
 
 def command_now(past: Past) -> tuple[int, int]:
-    """Returns the pattern in command at the tick that comes, and the number of ticks before it was told. It is 0
-    once the backup time in force has passed since then, and stays so until another is told."""
+    """Returns the pattern in command at the coming tick, and the number of the tick after which it was commanded. The
+    pattern is 0 once the backup time in force has passed since then, until another one is commanded."""
     last, number = past.last, past.last.number + 1
     command, commanded = (
         (last.command, last.commanded) if past.told.command is None else (past.told.command, last.number)
@@ -34,7 +34,7 @@ def command_now(past: Past) -> tuple[int, int]:
 
 
 def clock_now(past: Past, drift: Drift) -> int:
-    """Returns the clock at the tick that comes: one later than it was or was set to, but for the drift."""
+    """Returns the clock at the coming tick: one later than it was or was set to, except for the drift."""
     number = past.last.number + 1
     rise = 1
     if drift.gain and number % drift.gain == 0:
@@ -46,7 +46,7 @@ def clock_now(past: Past, drift: Drift) -> int:
 
 
 def target(past: Past, mode: Mode, clock: int) -> int:
-    """Returns where the counter is to stand: the time since the pattern's offset, round the cycle."""
+    """Returns the target of the counter: the time since the pattern's offset, modulo the cycle."""
     if mode.kind not in (Kind.SEEK, Kind.COORD):
         return 0
     laid = plan(past.tables, mode.number)

@@ -1,6 +1,6 @@
 """An overlap over a trace: an arrow that is green with any of several phases.
 
-docs/TRACE.md, "An overlap over a trace". What it shows at a tick is told by looking back over the ticks at which a
+docs/TRACE.md, "An overlap over a trace". What it shows at a tick is found by looking back over the ticks at which a
 parent was Green, and over what it showed.
 """
 
@@ -23,7 +23,7 @@ class OverlapFault(Exception):
 
 
 def first_wrong_parent(parents: bytes, opening: Tables) -> int | None:
-    """Returns the first parent that is no phase, isn't enabled as the cabinet opens, or stands twice."""
+    """Returns the first parent that isn't a phase, isn't enabled as the cabinet opens, or is a duplicate."""
     for place, p in enumerate(parents):
         if p not in PHASES or p not in enabled(opening) or p in parents[:place]:
             return p
@@ -37,12 +37,12 @@ def has_time(told: Overlaps, p: int, tables: list[Tables]) -> bool:
 
 
 def has_lasted(shown: list[Colour], ticks: int) -> bool:
-    """Tells whether the last colour has been shown for so many ticks in a row."""
+    """Tells whether the last colour has been shown for at least this number of ticks in a row."""
     return len(shown) >= ticks and all(colour is shown[-1] for colour in shown[len(shown) - ticks :])
 
 
 def shown_after(shown: list[Colour], green: list[bool], told: Overlaps) -> Colour:
-    """Returns what the overlap shows at the tick behind those that are shown; `green` tells of each tick, this one
+    """Returns what the overlap shows at the tick after those that are shown; `green` tells of each tick, this one
     included, whether a parent was Green."""
     before = shown[-1]
     if before is Colour.RED:
@@ -55,7 +55,7 @@ def shown_after(shown: list[Colour], green: list[bool], told: Overlaps) -> Colou
 
 
 def checked(data: bytes, told: Overlaps) -> list[Moment]:
-    """Returns the moments of the cabinet in a trace, where the overlap breaks no rule."""
+    """Returns the moments of the cabinet in a trace, if the overlap breaks no rule."""
     run = check(data)
     if told.cabinet > len(run.cabinets):
         raise OverlapFault(1, 0)

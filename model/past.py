@@ -1,9 +1,9 @@
-"""A cabinet's past: each frame with what its tick saw, and what has been told since the last one.
+"""A cabinet's past: each frame with what its tick saw, and what the cabinet has received since the last one.
 
-docs/DEFINITIONS.md, "A history, and looking back over it". A tick looks back over the list of moments. So that a
-long green doesn't cost its length again at every tick, a moment also keeps when the last run of a thing began, or
-how long it is: it is one more than in the moment before where the thing still holds, and starts anew where it
-doesn't. That is what a walk back over the list counts; model/tests/test_past.py walks back and compares.
+docs/DEFINITIONS.md, "A history, and looking back over it". A tick looks back over the list of moments. So that a long
+green doesn't cost its length again at every tick, a moment also keeps when the last run of a thing began, or how long
+it is: it is one more than in the moment before if the thing still holds, and starts again if it doesn't. That is what a
+walk back over the list counts; model/tests/test_past.py walks back and compares.
 """
 
 from dataclasses import dataclass, field
@@ -25,10 +25,10 @@ class Moment:
     clock: int
     command: int
     commanded: int
-    """The number of the last tick before the pattern in command was told."""
+    """The number of the last tick before the pattern in command was received."""
     calls: Calls = Calls()
     places: Places = field(default_factory=dict)
-    """By number, the last priority request of each, and what has become of it."""
+    """By number, the last priority request of each, and its state."""
     colour_began: dict[int, int] = field(default_factory=lambda: dict.fromkeys(PHASES, 0))
     """For each phase the number of the moment at which it began to show its colour."""
     signal_began: dict[int, int] = field(default_factory=lambda: dict.fromkeys(PHASES, 0))
@@ -53,7 +53,7 @@ class Moment:
 
 @dataclass
 class ToldSinceFrame:
-    """What has come to a cabinet since its last frame."""
+    """What a cabinet has received since its last frame."""
 
     command: int | None = None
     clock: int | None = None
@@ -65,7 +65,7 @@ class ToldSinceFrame:
 
 
 class Past:
-    """All moments of a cabinet, the oldest first, and what has been told since the last one; the tables of its
+    """All moments of a cabinet, the oldest first, what it has received since the last one, and the tables of its
     versions."""
 
     def __init__(self, tables: Tables, command: int, clock: int) -> None:
@@ -89,9 +89,9 @@ class Past:
         return self.moments[-1]
 
     def thin(self) -> None:
-        """Puts in place of the moment before the last one the one before that, where both show the same: the tables of
-        a colour or a signal are read of the moment with which it began. A past that is thinned takes no memory for what
-        stays the same."""
+        """Replaces the moment before the last one by the one before that, if both show the same: the tables of a colour
+        or a signal are read from the moment with which it began. A past that is thinned takes no memory for what stays
+        the same."""
         if len(self.moments) < 3:
             return
         one, two = (it.frame for it in self.moments[-3:-1])
@@ -118,7 +118,7 @@ class Past:
 def began(
     before: dict[int, int], was: dict[int, Colour | Signal], shows: dict[int, Colour | Signal], number: int
 ) -> dict[int, int]:
-    """Returns when phases began to show what they show: at this number where it is another thing than before."""
+    """Returns when phases began to show what they show: at this number if they show something different now."""
     if was is shows:
         return before
     return {p: before[p] if was[p] is shows[p] else number for p in PHASES}

@@ -1,4 +1,4 @@
-"""The rules 13 to 19 of tables: correction, and defined patterns. Each is asked only where all rules before it hold.
+"""The rules 13 to 19 of tables: correction, and defined patterns. Each is tested only if all rules before it hold.
 
 docs/SCENARIO.md, "The rules of tables".
 """
@@ -40,7 +40,7 @@ def coordinates_pair(tables: Tables, number: int) -> bool:
 
 
 def sums_agree(tables: Tables, number: int) -> bool:
-    """Rule 17: the times of each ring come to the cycle, and on each side those of both rings to the same."""
+    """Rule 17: the times of each ring add up to the cycle, and on each side the sums of both rings are equal."""
 
     def total(ring: int, of: frozenset[int]) -> int:
         return sum(plan.split_time(tables, number, p) for p in of if rows(tables)[p].ring == ring)
@@ -51,7 +51,7 @@ def sums_agree(tables: Tables, number: int) -> bool:
 
 
 def services_fit(tables: Tables, number: int) -> bool:
-    """Rule 18: a phase that isn't coordinated or omitted has time in its slot for its least service, with room for
+    """Rule 18: a phase that isn't coordinated or omitted has time in its slot for its minimum service, with room for
     the clearances."""
     free = enabled(tables) - plan.coordinated(tables, number) - plan.omitted(tables, number)
     starts = plan.slot_starts(tables, number)
@@ -59,7 +59,7 @@ def services_fit(tables: Tables, number: int) -> bool:
 
 
 def window_fits(tables: Tables, number: int) -> bool:
-    """Rule 19: the window of the coordinated phases holds an add, twice a skip, and their least service after a
+    """Rule 19: the window of the coordinated phases holds an add, twice a skip, and their minimum service after a
     skip."""
     held, may = plan.coordinated(tables, number), correction(tables)
     window = min(plan.layout_force_point(tables, number, p) for p in held) - plan.zero_point(tables, number)

@@ -62,8 +62,8 @@ def preempt(tables: Tables, number: int) -> Preempt:
 
 
 def is_called(tables: Tables, number: int, lasted: int) -> bool:
-    """Tells whether a preempt is called whose input has been on for so many ticks in a row: longer than its delay,
-    and not beyond its greatest presence after that."""
+    """Tells whether a preempt is called whose input has been on for `lasted` ticks in a row: longer than its delay, and
+    not longer than its maximum presence after that."""
     row = preempt(tables, number)
     if not row.dwell or lasted < row.delay + 1:
         return False
@@ -81,14 +81,14 @@ def has_reached(frame: Frame, goal: frozenset[int]) -> bool:
 
 
 def dwell_ends(row: Preempt, last: Moment, is_still_called: bool) -> bool:
-    """Tells whether a dwell is over: its goal was reached in each of so many last frames of it, the preempt isn't
-    called, and it has been served for its least duration."""
+    """Tells whether a dwell is over: its goal was reached in each of the last `dwell_green` frames, the preempt isn't
+    called, and it has been served for its minimum duration."""
     held = last.held_run if has_reached(last.frame, row.dwell) else 0
     return held >= row.dwell_green and not is_still_called and last.stage_run >= row.least_duration
 
 
 def stage_after(tables: Tables, last: Moment, called: list[int]) -> Mode | None:
-    """Returns the stage that follows that of the last frame; None where the preempt is over."""
+    """Returns the stage that follows that of the last frame; None if the preempt is over."""
     mode = last.frame.mode
     row, number = preempt(tables, mode.number), mode.number
     if mode.kind is Kind.ENTRY:
@@ -105,8 +105,8 @@ def stage_after(tables: Tables, last: Moment, called: list[int]) -> Mode | None:
 
 
 def stage_now(past: Past, lasted: dict[int, int]) -> Mode | None:
-    """Returns the stage of the tick that comes, None where no preempt is served: a lesser number breaks into the
-    stage of another, any number into what is no stage."""
+    """Returns the stage of the coming tick, None if no preempt is served. A lower number interrupts the stage of
+    another preempt; if no stage is active, any number starts one."""
     called = called_now(past.tables, lasted)
     mode = past.last.frame.mode
     served = stage_of(mode)

@@ -1,4 +1,4 @@
-"""Priority requests: which is live, which is active, what became of each.
+"""Priority requests: which is live, which is active, and the state of each.
 
 docs/DEFINITIONS.md, "A tick: preemption and priority": `place_of`, `is_live`, `leader`, `active_in`, `request_state`.
 """
@@ -8,7 +8,7 @@ from enum import Enum
 
 
 class State(Enum):
-    """What became of a request, by its code in the agent."""
+    """The state of a request, by its code in the agent."""
 
     NONE = 0
     QUEUED = 1
@@ -35,7 +35,7 @@ class Request:
 
 @dataclass(frozen=True)
 class Place:
-    """The last request of a number: the ticks at which it comes and is gone, and what became of it."""
+    """The last request of a number: the ticks of its arrival and its departure, and its state."""
 
     request: Request
     at: int
@@ -47,7 +47,7 @@ Places = dict[int, Place]
 
 
 def with_request(places: Places, request: Request, ticks: int) -> Places:
-    """Returns the requests after one that was given after so many ticks; it replaces that of its number."""
+    """Returns the requests after one was given after `ticks` ticks; it replaces the one with its number."""
     place = Place(request, ticks + request.arrival, ticks + request.departure)
     return {**places, request.number: place}
 
@@ -71,7 +71,7 @@ def leader(places: Places, phases: frozenset[int]) -> int:
 
 def after_tick(places: Places, number: int, phases: frozenset[int]) -> tuple[Places, int]:
     """Returns the requests at a tick of this number, and the active one or 0: those that are gone depart, then one
-    of the live ones for these phases (none where no pattern binds) is active."""
+    of the live ones for these phases (none if no pattern binds) is active."""
     if not places:
         return places, 0
 

@@ -1,6 +1,6 @@
-"""The requests of a session: what a line asks for, or the word that says why it can't be taken.
+"""The requests of a session: what a line asks for, or the word that says why it isn't accepted.
 
-docs/LIVE.md, "Requests" and "What can't be taken".
+docs/LIVE.md, "Requests" and "Requests that are not accepted".
 """
 
 import re
@@ -15,19 +15,19 @@ STREAMS = {it.name.lower().encode(): it for it in Stream}
 
 
 class NotTaken(Exception):
-    """A request can't be taken; the word says why."""
+    """A request isn't accepted; the word says why."""
 
 
 @dataclass(frozen=True)
 class Tick:
-    """Each cabinet takes so many ticks."""
+    """Each cabinet takes this number of ticks."""
 
     count: int
 
 
 @dataclass(frozen=True)
 class Given:
-    """An input from the street comes to a cabinet."""
+    """A cabinet receives an input from the street."""
 
     cabinet: int
     what: Input
@@ -35,7 +35,7 @@ class Given:
 
 @dataclass(frozen=True)
 class Framed:
-    """A frame comes to a cabinet on a stream."""
+    """A cabinet receives a frame on a stream."""
 
     cabinet: int
     stream: Stream
@@ -61,7 +61,7 @@ def number(word: bytes, most: int, fault: str) -> int:
 
 
 def flag(word: bytes) -> bool:
-    """Returns whether something goes on; the word says on or off."""
+    """Returns whether a detector or an input turns on; the word is on or off."""
     if word not in (b"on", b"off"):
         raise NotTaken("on")
     return word == b"on"

@@ -1,7 +1,7 @@
-"""What the two rings end and begin in free operation and in step with a pattern.
+"""What the two rings end and begin in free operation and coordinated by a pattern.
 
 docs/DEFINITIONS.md, "A tick: rings" and "A tick: coordination"; docs/DEFINITIONS.md has the plan of the standard
-pattern. A phase is wanted with k where it has demand and, with a pattern, room for its service after k ticks more.
+pattern. A phase is wanted with k if it has demand and, with a pattern, room for its service after k ticks more.
 """
 
 import functools
@@ -40,7 +40,7 @@ class Hold(Enum):
 
 
 def runs_out(past: Past, p: int) -> Colour | None:
-    """Returns the colour to which a clearance that is over at this tick goes; None where none is."""
+    """Returns the colour to which a clearance that is over at this tick goes; None if none is."""
     shown = past.last.frame.lights.of[p]
     if shown not in (Colour.YELLOW, Colour.CLEAR):
         return None
@@ -88,8 +88,8 @@ class Rings:
         return sides.side(self.tables, p) if p else sides.sides_in_order(self.tables, self.sequence)[-1]
 
     def later(self, ring: int) -> list[int]:
-        """Returns the phases of a ring in the present side that come after the one last on in it; all where that was
-        of another side."""
+        """Returns the phases of a ring in the present side that come after the one last on in it; all if that was of
+        another side."""
         own = sides.ring_phases(self.tables, self.sequence, ring, self.side)
         last = self.past.last.last_on.get(ring)
         return own[own.index(last) + 1 :] if last in own else own
@@ -111,8 +111,8 @@ class Rings:
         return self.plan.window <= self.counter
 
     def too_few(self, p: int, k: int) -> int:
-        """Returns how many ticks are missing before the force point of a phase for its service after k ticks more;
-        none are where it is 0 or less."""
+        """Returns how many ticks are missing before the force point of a phase for its service after k ticks more; none
+        are missing if the number is 0 or less."""
         return self.counter + k + self.row[p].least_service - self.plan.force[p]
 
     def is_wanted(self, p: int, k: int) -> bool:
@@ -121,7 +121,7 @@ class Rings:
 
     @functools.cached_property
     def clearance_on(self) -> int:
-        """Returns the greatest clearance of the phases that were on in the last frame."""
+        """Returns the longest clearance of the phases that were on in the last frame."""
         return max((self.row[p].clearance for p in self.past.last.frame.lights.on), default=0)
 
     def elsewhere(self, k: int) -> bool:
@@ -137,8 +137,8 @@ class Rings:
         return p not in maximum_recall(self.tables, self.bound) and self.quiet.get(p, 0) >= self.row[p].passage
 
     def reason(self, p: int) -> Ending | None:
-        """Returns the reason for which a Green phase may end: in free operation gap or maximum, with a pattern gap, an
-        active priority request or its split filled, and for a coordinated phase its force point alone."""
+        """Returns the reason for which a Green phase may end. In free operation: gap or maximum; with a pattern: gap,
+        an active priority request or its split filled; for a coordinated phase: only its force point."""
         if self.plan is not None and p in self.plan.coordinated:
             extension = self.tables.unit(EXTENSION_LIMIT) if self.request else 0
             return Ending.FORCE_POINT if self.counter >= self.plan.force[p] + extension else None
@@ -166,7 +166,7 @@ class Rings:
         return self.plan is not None and p not in self.plan.coordinated and self.counter >= self.plan.force[p]
 
     def held(self, ring: int, p: int) -> Hold | None:
-        """Returns why the Green phase of a ring does not turn Yellow; None where it does."""
+        """Returns why the Green phase of a ring does not turn Yellow; None if it does."""
         if self.is_forced_off(p):
             return None
         if p not in self.done:
@@ -189,7 +189,7 @@ class Rings:
         return next(filter(self.can_begin, self.earlier(ring)), None)
 
     def joins(self, p: int) -> bool:
-        """Tells whether a phase may turn Green beside another without demand, by dual entry."""
+        """Tells whether a phase may turn Green along with another without demand, by dual entry."""
         may = p in with_option(self.tables, DUAL_ENTRY) and p in servable(self.tables, self.bound)
         return may and is_startable(self.past, p) and self.fits(p, 0)
 

@@ -1,8 +1,7 @@
-"""The rules that a cabinet's tables must keep: the first that they break, and its least row.
+"""The rules that a cabinet's tables must keep: the first that they break, and its lowest row.
 
-docs/SCENARIO.md, "The rules of tables". The rules 1 to 12 and 20 to 22 speak of phases, sides, sequences and
-preempts, the rules 13 to 19 (pattern_rules.py) of coordination. A rule is looked at only where all rules before it
-hold in all rows.
+docs/SCENARIO.md, "The rules of tables". The rules 1 to 12 and 20 to 22 speak of phases, sides, sequences and preempts,
+the rules 13 to 19 (pattern_rules.py) of coordination. A rule is tested only if all rules before it hold in all rows.
 """
 
 from collections.abc import Callable, Iterable
@@ -48,7 +47,7 @@ def is_listed_back(tables: Tables, p: int) -> bool:
 
 
 def lists_other_ring(tables: Tables, p: int) -> bool:
-    """Rule 4: the list names phases of the other ring alone."""
+    """Rule 4: the list names only phases of the other ring."""
     return all(rows(tables)[q].ring != rows(tables)[p].ring for q in listed(tables, p))
 
 
@@ -103,7 +102,7 @@ def has_yellow(tables: Tables, p: int) -> bool:
 
 
 def reverts_in_time(tables: Tables, p: int) -> bool:
-    """Rule 11: the red revert is no longer than the least service and clearance of any other phase together."""
+    """Rule 11: the red revert is no longer than the minimum service and clearance of any other phase together."""
     row = rows(tables)
     return all(row[p].red_revert <= row[q].least_service + row[q].clearance for q in enabled(tables) if q != p)
 
@@ -181,7 +180,8 @@ def first_own(tables: Tables, rules: range) -> Broken | None:
 
 
 def first_broken(tables: Tables, in_force: Tables, is_flashing: bool) -> Broken | None:
-    """Returns the first rule that tables break beside those in force, and its least row; None where they break none."""
+    """Returns the first rule that tables break, together with those in force, and its lowest row; None if they break
+    none."""
     if broken := first_own(tables, range(1, 21)):
         return broken
     if not is_flashing and tables is not in_force:

@@ -1,7 +1,7 @@
-"""A run of a scenario: the lines of its trace, for any order in which the items of a round come to a cabinet.
+"""A run of a scenario: the lines of its trace, for any order in which a cabinet receives the items of a round.
 
-docs/TRACE.md, "How a trace is read". Each line that is due is given in turn; where a J line is due, whoever goes
-through the lines answers with the journal: `run` with the serial one, `check` with that of the text.
+docs/TRACE.md, "How a trace is read". Each expected line is yielded in turn. Where a J line is expected, the caller
+sends the journal: `run` the serial one, `check` that of the text.
 """
 
 from collections import defaultdict
@@ -22,7 +22,8 @@ Runs = list[tuple[int, int]]
 
 @dataclass(frozen=True)
 class JournalDue:
-    """A J line of a cabinet is due, with a journal that takes each of so many items of each pass once."""
+    """A J line of a cabinet is expected, whose journal takes each item of each pass once; `items` has their number by
+    pass."""
 
     cabinet: int
     items: list[int]
@@ -99,12 +100,12 @@ class Run:
         return Round(cabinet, inputs, self.link.down(number, cabinet.number, sent), self.scenario.ticks)
 
     def close_round(self, number: int, cabinet: Cabinet) -> None:
-        """Lets a cabinet's replies of a round go up."""
+        """Sends a cabinet's replies of a round to the master."""
         replies = {stream: [it.octets for it in cabinet.replies if it.stream == stream.value] for stream in Stream}
         self.arrived[cabinet.number - 1] = self.link.up(number, cabinet.number, replies)
 
     def round(self, number: int) -> Due:
-        """Gives the lines of a round: the master's notes, then cabinet by cabinet what comes to it."""
+        """Gives the lines of a round: the master's notes, then, cabinet by cabinet, those of what it receives."""
         yield b"R %d" % number
         notes, sent = self.master_turns(number)
         yield from notes

@@ -1,4 +1,4 @@
-"""How a scenario is read from its text; its first fault where it is none.
+"""How a scenario is read from its text; its first fault if it isn't one.
 
 docs/SCENARIO.md, "Names" and "What is refused, and how".
 """
@@ -111,14 +111,14 @@ FAULT = [
 
 
 class Items:
-    """The shapes of the items of a scenario, which have a round and a cabinet that there are."""
+    """The shapes of the items of a scenario, which have an existing round and cabinet."""
 
     def __init__(self, rounds: int, cabinets: int) -> None:
         self.common = [Named("round", whole(1, rounds)), Named("cabinet", whole(1, cabinets))]
         self.loads: Counter[int] = Counter()
 
     def item(self, says: dict[str, Any], path: str, what: Any) -> Item:
-        """Returns an item by what its names say; its place stands at the end of its path."""
+        """Returns an item by what its names say; its place is at the end of its path."""
         return Item(says["round"], says["cabinet"], int(path.rsplit("[", 1)[1][:-1]), what)
 
     def input(self, value: Any, path: str) -> Item:
@@ -176,7 +176,7 @@ TOP = [
 
 
 def content(value: Any, path: str = ".") -> Scenario:
-    """Returns what a value says that is a scenario; else its first fault is raised."""
+    """Returns the scenario that a value is; raises its first fault if it isn't one."""
     known = names_known(value, path, TOP)
 
     def tell(name: str, shape: Any, *default: Any) -> Any:
@@ -209,7 +209,7 @@ def read_scenario(data: bytes) -> Scenario:
 
 
 def read_value(data: bytes) -> Any:
-    """Returns the value of a JSON text; that it is none is a fault."""
+    """Returns the value of a JSON text; raises the fault if it isn't valid JSON."""
     try:
         return read_json(data)
     except NotJson:

@@ -13,8 +13,8 @@ def master_clock(scenario: Scenario, number: int) -> int:
 
 
 def scheduled(schedule: list[Entry], section: int, clock: int) -> int | None:
-    """Returns the pattern of the section's latest entry by the clock, of equal seconds the later in the list; before
-    the first entry of the day, that of the last one of the day; None where the section has no entry."""
+    """Returns the pattern of the section's latest entry that isn't after the clock, of equal seconds the later in the
+    list; before the first entry of the day, that of the last one of the day; None if the section has none."""
     own = [entry for entry in schedule if entry.section == section]
     come = [entry for entry in own if 10 * entry.second <= clock] or own
     if not come:

@@ -1,7 +1,7 @@
 """A session: the cabinets of a scenario, driven request by request.
 
 docs/LIVE.md. A round begins with what master, line and scenario bring, all of it before any tick; what the session
-brings comes behind that, when it is asked for.
+brings comes after that, when it is requested.
 """
 
 from collections.abc import Iterator
@@ -19,7 +19,8 @@ MOST_BROUGHT = 100_000
 
 
 def first_out_of_order(items: list[Item]) -> int | None:
-    """Returns the place of the first item that has a lesser round than the one before it, None where there is none."""
+    """Returns the place of the first item whose round is lower than that of the one before it, None if there is
+    none."""
     return next((two.place for one, two in zip(items, items[1:]) if two.round < one.round), None)
 
 
@@ -40,7 +41,7 @@ class Journal:
         self.runs: Runs = []
 
     def took(self, number: int, count: int = 1) -> None:
-        """Adds so many items of a pass."""
+        """Adds a number of items of a pass."""
         if self.runs and self.runs[-1][0] == number:
             count += self.runs.pop()[1]
         self.runs.append((number, count))
@@ -129,7 +130,7 @@ class Session:
 
 
 def bring(round_: Round, journal: Journal) -> Iterator[bytes]:
-    """Yields the lines of all that comes to a cabinet before the ticks of its round."""
+    """Yields the lines of all that a cabinet receives before the ticks of its round."""
     for number, count in round_.due.serial():
         if number == TICKS:
             return

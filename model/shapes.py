@@ -1,8 +1,8 @@
-"""What may stand at a place of a JSON value, and the first fault of what does.
+"""What is allowed at a place of a JSON value, and the first fault of what is there.
 
-docs/SCENARIO.md, "What is refused, and how". A shape takes a value and its path, and returns what the value says; a
-fault is raised. Of one value the kind comes before the range; of a list its length before its items; of an object
-unknown names before the names in their order.
+docs/SCENARIO.md, "What is refused, and how". A shape takes a value and its path, and returns what the value says; it
+raises the first fault. A value's kind is checked before its range, a list's length before its items, and an object's
+unknown names before its names in their order.
 """
 
 import re
@@ -14,11 +14,11 @@ from model.cells import COLUMNS, ROWS, SUBS, Cell, Misfit, Octets, Table, Value,
 
 Shape = Callable[[Any, str], Any]
 NEEDED = object()
-"""Stands for the default of a name that must be there."""
+"""The default of a required name."""
 
 
 class Refused(Exception):
-    """The first fault of an input, as the line tells it behind `scenario: `."""
+    """The first fault of an input, as it is printed after `scenario: `."""
 
 
 def field_fault(path: str) -> Refused:
@@ -95,7 +95,7 @@ def visible(low: int, high: int) -> Shape:
 
 
 def hexadecimal(text: Any) -> bytes | None:
-    """Returns the octets that a text has in hexadecimal digits, None where it has none."""
+    """Returns the octets that a text has in hexadecimal digits, None if it has none."""
     if not isinstance(text, str) or not re.fullmatch(r"(?:[0-9A-Fa-f]{2})*", text):
         return None
     return bytes.fromhex(text)
@@ -130,7 +130,7 @@ def list_of(item: Shape, low: int, high: int) -> Shape:
 
 @dataclass(frozen=True)
 class Named:
-    """A name of an object: the shape of its value, and what counts where it is absent."""
+    """A name of an object: the shape of its value, and its default."""
 
     name: str
     shape: Shape
@@ -163,9 +163,8 @@ def fields(value: Any, path: str, names: list[Named]) -> dict[str, Any]:
 
 
 def alternatives(value: Any, path: str, common: list[Named], choices: dict[str, list[Named]]) -> dict[str, Any]:
-    """Returns what the names of an object say that has some names and those of one alternative. An alternative
-    stands where its first name does; where two or none stand, the fault is the object's, behind those of the common
-    names."""
+    """Returns what the names of an object say that has some names and those of one alternative. An alternative is
+    chosen by its first name. If two or none are chosen, the fault is the object's, after those of the common names."""
     standing = [first for first in choices if isinstance(value, dict) and first in value]
     one = choices[standing[0]] if len(standing) == 1 else [it for choice in choices.values() for it in choice]
     known = names_known(value, path, [it.name for it in common + one])
@@ -179,7 +178,7 @@ TABLES = {table.value: table for table in Table}
 
 
 def cell_named(value: Any) -> Cell | None:
-    """Returns the cell that a list names, None where it names none."""
+    """Returns the cell that a list names, None if it names none."""
     if not isinstance(value, list) or not value or not isinstance(value[0], str) or value[0] not in TABLES:
         return None
     table, places = TABLES[value[0]], value[1:-1]

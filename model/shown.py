@@ -18,7 +18,7 @@ NOTHING_PLANNED, FLASHING = 254, 255
 
 @dataclass(frozen=True)
 class Shown:
-    """A cabinet's controller and its stage, as they stand when a message is answered."""
+    """A cabinet's controller and its stage, at the time at which a message is answered."""
 
     controller: Controller
     stage: Stage
@@ -42,7 +42,7 @@ def is_in_group(shown: Shown, column: Group, p: int) -> bool:
 
 
 def group_value(shown: Shown, name: GroupName) -> int:
-    """Returns the bits of a group of eight phases, the lowest phase in the least bit."""
+    """Returns the bits of a group of eight phases, the lowest phase in the lowest bit."""
     first = 8 * (name.group - 1) + 1
     return sum(1 << bit for bit in range(8) if is_in_group(shown, name.column, first + bit))
 
@@ -56,7 +56,7 @@ def pattern_status(shown: Shown) -> int:
 
 
 def outcome_detail(shown: Shown) -> tuple[int, int]:
-    """Returns what is told of the last outcome beside its code: the part that is expected, or rule and row."""
+    """Returns the details of the last outcome, in addition to its code: the expected part, or rule and row."""
     last = shown.stage.last
     if last is None:
         return 0, 0

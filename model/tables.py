@@ -1,7 +1,7 @@
 """A cabinet's tables, by cells and by the rows that a tick reads; the standard tables.
 
-docs/SCENARIO.md, "Cells" and "The standard tables". Times of rows are in ticks. Tables never change: a download
-makes new ones. What follows from tables alone (rows, sides, plans) is worked out once for each and kept in `memo`.
+docs/SCENARIO.md, "Cells" and "The standard tables". Times of rows are in ticks. Tables never change: a download makes
+new ones. What depends only on tables (rows, sides, plans) is worked out once for each and kept in `memo`.
 """
 
 import functools
@@ -17,14 +17,14 @@ PEDESTRIAN_RECALL, DUAL_ENTRY = 256, 1024
 
 
 class Tables:
-    """The values of all cells: those that were put, and for all others what a table has that nobody filled in."""
+    """The values of all cells: those that were put, and for all others the defaults of a table."""
 
     def __init__(self, values: dict[Cell, Value]) -> None:
         self.values = values
         self.memo: dict[Any, Any] = {}
 
     def at(self, cell: Cell) -> Value:
-        """Returns the value of a cell: 0 or empty where nothing was put, start-up 1, split mode 2."""
+        """Returns the value of a cell: 0 or empty if nothing was put, start-up 1, split mode 2."""
         value = self.values.get(cell)
         if value is not None:
             return value
@@ -93,7 +93,7 @@ class Row:
 
     @property
     def least_service(self) -> int:
-        """Returns the least green, or walk and pedestrian clearance where there is a walk and they take longer."""
+        """Returns the minimum green, or walk and pedestrian clearance if there is a walk and they take longer."""
         return max(self.least_green, self.walk + self.ped_clear) if self.walk else self.least_green
 
 

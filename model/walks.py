@@ -20,7 +20,7 @@ STARTS_WITH_WALK = 3
 
 @dataclass
 class Crossing:
-    """What a tick knows as it comes to the pedestrians: the lights and the mode that it gives, and whether it is a
+    """What a tick knows before it handles the pedestrians: the lights and the mode that it gives, and whether it is a
     local zero."""
 
     past: Past
@@ -32,7 +32,7 @@ class Crossing:
 
 
 def is_recalled(at: Crossing, p: int) -> bool:
-    """Tells whether a phase is recalled for pedestrians, with the split where the frame is in step with a pattern."""
+    """Tells whether a phase is recalled for pedestrians, by the split if the frame is coordinated."""
     bound = at.mode.number if at.mode.kind is Kind.COORD else None
     return p in walk_recall(at.past.tables, bound)
 

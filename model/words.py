@@ -53,7 +53,7 @@ STAGES = frozenset((Kind.ENTRY, Kind.TRACK, Kind.DWELL))
 
 @dataclass(frozen=True)
 class Mode:
-    """A kind of mode, with the number of its pattern or preempt; 0 where it has none."""
+    """A kind of mode, with the number of its pattern or preempt; 0 if it has none."""
 
     kind: Kind
     number: int = 0
@@ -122,7 +122,7 @@ class Frame:
         )
 
     def is_local_zero(self, before: "Frame") -> bool:
-        """Tells whether the counter comes to 0, or stands at 0 as the pattern begins."""
+        """Tells whether the counter becomes 0, or is 0 as the pattern begins."""
         if self.mode.kind is not Kind.COORD or self.counter != 0:
             return False
         return before.counter != 0 or before.mode != self.mode

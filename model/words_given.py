@@ -37,7 +37,7 @@ class Band:
 
 @dataclass(frozen=True)
 class Seed:
-    """What a generated scenario is drawn from."""
+    """What a generated scenario is generated from."""
 
     seed: int
     cabinets: int
@@ -49,7 +49,7 @@ class Generate(Seed):
 
 
 class Survey(Seed):
-    """Say what a run of a generated scenario comes to."""
+    """Print the results of a run of a generated scenario."""
 
 
 @dataclass(frozen=True)
@@ -68,19 +68,19 @@ ALONE: dict[str, Command] = {"run": Run(), "check": Check(), "live": Live(), "re
 
 
 def number(word: str, low: int, high: int) -> int | None:
-    """Returns the number of a word in a range, None where it is none."""
+    """Returns the number of a word in a range, None if it is none."""
     if not re.fullmatch(r"0|[1-9][0-9]{0,9}", word) or not low <= int(word) <= high:
         return None
     return int(word)
 
 
 def pairs(words: list[str], names: list[str]) -> list[str] | None:
-    """Returns the words behind some names, None where the words aren't these names each with a word."""
+    """Returns the words after some names, None if the words aren't these names each with a word."""
     return words[1::2] if len(words) == 2 * len(names) and words[::2] == names else None
 
 
 def generate(words: list[str], kind: type[Generate] | type[Survey]) -> Command | None:
-    """Returns what is to be generated."""
+    """Returns the command with the seed and the size of the scenario to generate; None if the words aren't valid."""
     told = pairs(words, ["--seed", "--cabinets", "--rounds"])
     if told is None:
         return None
@@ -91,7 +91,7 @@ def generate(words: list[str], kind: type[Generate] | type[Survey]) -> Command |
 
 
 def overlaps(words: list[str]) -> Command | None:
-    """Returns what is asked of an overlap."""
+    """Returns the question about an overlap."""
     told = pairs(words, ["--cabinet", "--parents", "--trail", "--yellow", "--red"])
     if told is None or not re.fullmatch(r"(?:[0-9A-Fa-f]{2}){1,16}", told[1]):
         return None
@@ -102,7 +102,7 @@ def overlaps(words: list[str]) -> Command | None:
 
 
 def command_of(words: list[str]) -> Command | None:
-    """Returns the command that the words are; None where they are none."""
+    """Returns the command that the words are; None if they are none."""
     if not words:
         return None
     first, rest = words[0], words[1:]

@@ -12,7 +12,7 @@ from model.shapes import cell
 from model.tables import BASES, Tables, rows
 
 TRIES = 6
-"""How often cells are drawn anew that break a rule."""
+"""How often cells that break a rule are drawn again."""
 
 
 @dataclass
@@ -41,7 +41,7 @@ def tables_of(base: str, cells: list[CellList]) -> Tables:
 
 
 def needs_of(tables: Tables, made: Structure) -> dict[int, int]:
-    """Returns the seconds that each phase needs of a split: its least service and the greatest clearance of its
+    """Returns the seconds that each phase needs of a split: its minimum service and the longest clearance of its
     side."""
     row = rows(tables)
     needs = {}
@@ -52,7 +52,7 @@ def needs_of(tables: Tables, made: Structure) -> dict[int, int]:
 
 
 def room(tables: Tables, plans: list[Plan]) -> tuple[int, int]:
-    """Returns the least window of some patterns, and the greatest least service of their coordinated phases."""
+    """Returns the shortest window of some patterns, and the longest minimum service of their coordinated phases."""
     if not plans:
         return 50, 0
     windows = [

@@ -1,4 +1,4 @@
-"""Cases of each kind: words of the program, and what stands on its standard input."""
+"""Cases of each kind: words of the program, and its standard input."""
 
 import json
 import sys
@@ -22,7 +22,7 @@ from model.shapes import Refused  # noqa: E402
 
 
 TRIES = 4
-"""How often a scenario is drawn anew that is refused, where a trace is asked for."""
+"""How often a scenario that is refused is drawn again, when a trace is wanted."""
 
 
 MOST_TICKS = 60_000
@@ -57,7 +57,7 @@ def run_case(draw: Random) -> Case:
 
 
 def is_long(data: bytes) -> bool:
-    """Tells whether a text is a scenario of so many ticks that a run of it takes long."""
+    """Tells whether a text is a scenario with more than `MOST_TICKS` ticks, whose run takes long."""
     try:
         value = json.loads(data)
         return len(value["cabinets"]) * value["rounds"] * value["ticks"] > MOST_TICKS
@@ -66,7 +66,7 @@ def is_long(data: bytes) -> bool:
 
 
 def short(one: Callable[[], bytes]) -> Case:
-    """Draws a text that is run, until it is no long scenario."""
+    """Draws texts until one isn't a long scenario, and returns the case that runs it."""
     while is_long(data := one()):
         pass
     return Case(["run"], data)
@@ -102,7 +102,7 @@ def check_case(draw: Random) -> Case:
 
 
 def live_case(draw: Random) -> Case:
-    """Draws a session, at times with damage behind its first line."""
+    """Draws a session, sometimes with damage after its first line."""
     first, rest = session(draw).split(b"\n", 1)
     return Case(["live"], first + b"\n" + (damaged(draw, rest) if rest and draw.random() < 0.1 else rest))
 
@@ -120,7 +120,7 @@ def respond_case(draw: Random) -> Case:
 
 
 def band_case(draw: Random) -> Case:
-    """Draws what is asked of through bands, at times with hostile values or damage."""
+    """Draws a question about progression bands, sometimes with hostile values or damage."""
     return Case(["band"], perhaps_damaged(draw, reports.street(draw)))
 
 

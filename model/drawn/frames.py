@@ -1,4 +1,4 @@
-"""Frames of other software: commands, reads, downloads, and octets that are no message."""
+"""Frames of other software: commands, reads, downloads, and octets that aren't a message."""
 
 from random import Random
 
@@ -73,7 +73,7 @@ def any_value(draw: Random) -> Value:
 
 
 def name_near(draw: Random) -> Oid:
-    """Draws a name that can be read, one beside it, or an odd one."""
+    """Draws a readable name, one next to it, or an odd one."""
     oid = draw.choice(READABLE)
     changes = [
         oid,
@@ -89,7 +89,7 @@ def name_near(draw: Random) -> Oid:
 
 
 def read_frame(draw: Random, community: bytes) -> bytes:
-    """Draws a Get or a GetNext of some names: often of those that tell most of what a cabinet does."""
+    """Draws a Get or a GetNext of some names, often of those with the most information on a cabinet."""
     if draw.random() < 0.6:
         return octets_of(draw, Pdu.GET, [Bind(oid, None) for oid in draw.sample(TELLING, 32)], community)
     count = draw.choice([0, 1, 1, 2, 8, 32])
@@ -113,8 +113,8 @@ def load_binds(draw: Random, drawn: Drawn, load: int) -> list[Bind]:
 
 
 def load_cells(draw: Random, drawn: Drawn) -> list[CellList]:
-    """Draws the cells of a download: times of phases, else all cells of a cabinet of this structure drawn anew, at
-    times of another."""
+    """Draws the cells of a download: times of phases, or new values for all cells of a cabinet of this structure
+    (sometimes of the standard one)."""
     made = drawn.made if draw.random() < 0.9 else STANDARD
     if draw.random() < 0.5:
         return time_cells(draw, made)
@@ -137,7 +137,7 @@ def frame(draw: Random, drawn: Drawn, community: bytes, load: int) -> bytes:
 
 
 def damaged(draw: Random, octets: bytes) -> bytes:
-    """Returns octets with one changed, cut, or with some behind them."""
+    """Returns octets with one changed, cut, or with some after them."""
     at = draw.randrange(len(octets))
     return draw.choice(
         [

@@ -95,7 +95,7 @@ def places(value: Any, path: tuple = ()) -> list[tuple]:
 
 
 def changed(draw: Random, value: Any, path: tuple) -> Any:
-    """Returns a value with what stands at a path changed in some way."""
+    """Returns a value in which the part at a path is changed in some way."""
     if path:
         it = value.copy()
         it[path[0]] = changed(draw, it[path[0]], path[1:])

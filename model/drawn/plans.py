@@ -13,7 +13,7 @@ def pair(draw: Random, made: Structure) -> tuple[int, ...]:
 
 
 def times_of(draw: Random, made: Structure, needs: dict[int, int]) -> dict[int, int]:
-    """Draws split times in seconds that hold what each phase needs, and that come to the same in both rings of each
+    """Draws split times in seconds that hold what each phase needs, and whose sums are equal in both rings of each
     side."""
     times: dict[int, int] = {}
     for side in made.sides:
@@ -62,8 +62,8 @@ def pattern_cells(draw: Random, made: Structure, number: int, needs: dict[int, i
 
 
 def unit_cells(draw: Random, window: int, least: int) -> list[CellList]:
-    """Draws correction, backup time, extension, force mode and offset reference; the limits of correction up to what a
-    window and the least service of the coordinated phases leave, now and then a tick more."""
+    """Draws correction, backup time, extension, force mode and offset reference. The limits of correction are at most
+    what a window and the minimum service of the coordinated phases leave, sometimes a tick more."""
     widest = max(1, window)
     skip = max(1, min(widest // 2, window - least))
     more = draw.choice([0] * 15 + [1])

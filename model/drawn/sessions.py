@@ -1,4 +1,4 @@
-"""Drawn sessions: a scenario whose lists stand by rounds, and requests, some of which can't be taken."""
+"""Drawn sessions: a scenario whose lists are in the order of rounds, and requests, some of which are invalid."""
 
 from random import Random
 from typing import Any
@@ -43,7 +43,7 @@ ODD_LINES = [
 
 
 def ordered(draw: Random, value: dict[str, Any]) -> dict[str, Any]:
-    """Returns a scenario whose downloads and priority requests mostly stand by rounds."""
+    """Returns a scenario whose downloads and priority requests are mostly in the order of rounds."""
     lists = {name: sorted(value[name], key=lambda it: it["round"]) for name in ("loads", "priority") if name in value}
     return value | lists if draw.random() < 0.95 else value
 
@@ -63,7 +63,7 @@ def framed(street: Street) -> bytes:
 
 
 def request(draw: Random, street: Street) -> bytes:
-    """Draws a request that takes no ticks; one of twelve can't be taken."""
+    """Draws a request that takes no ticks; one of twelve is invalid."""
     kind = draw.random()
     if kind < 0.5:
         return given(street)

@@ -1,2 +1,2 @@
-"""What is promised of traces, each promise by itself, told from a trace's text and its scenario alone. No rule of a
-tick is used."""
+"""What is promised of traces. Each promise is checked by itself, only from a trace's text and its scenario. No rule of
+a tick is used."""

@@ -1,6 +1,6 @@
-"""When a cabinet is disturbed: the ticks at which another pattern comes into command, tables come, the clock is set to
-another time or passes midnight where the cycle doesn't divide the day, or the mode is start-up, flash, the way to it,
-or a preempt's.
+"""When a cabinet is disturbed: the ticks at which another pattern comes into command, tables come into force, the clock
+is set to another time or passes midnight (if the cycle doesn't divide the day), or the mode is start-up, flash, the way
+to it, or a preempt's.
 
 docs/DEFINITIONS.md, "What coordination promises, left undisturbed".
 """
@@ -19,7 +19,7 @@ BACKUP_TIME = 5
 
 @dataclass
 class Watch:
-    """What is known of a cabinet behind a tick: the clock, and the pattern in command since a tick."""
+    """What is known of a cabinet after a tick: the clock, and the pattern in command since a tick."""
 
     clock: int
     command: int
@@ -37,7 +37,7 @@ class Tick:
 
 
 def rise(street: Street, number: int) -> int:
-    """Returns by how much the clock goes on at a tick."""
+    """Returns by how much the clock advances at a tick."""
     drift = street.setup.drift
     if drift.gain and number % drift.gain == 0:
         return 2
@@ -45,7 +45,7 @@ def rise(street: Street, number: int) -> int:
 
 
 def go_on(street: Street, watch: Watch, number: int, told: list, shown: Seen, before: Seen) -> Tick:
-    """Returns a tick by what was told before it, and lets the watch go on."""
+    """Returns a tick by the orders before it, and advances the watch."""
     command, clock = watch.command, watch.clock
     for order in told:
         if order.scalar is Scalar.CLOCK:

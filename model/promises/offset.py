@@ -1,6 +1,6 @@
-"""Left undisturbed, a cabinet comes to a local zero within a bound, and onto its offset within the computed number of
-cycles more, and stays there; with a clock that drifts within twice as many and to within one tick (a clock that gains
-by the shortway correction alone).
+"""Left undisturbed, a cabinet reaches a local zero within a bound, and its offset within the computed number of cycles
+after that, and stays there. If the clock drifts, it reaches it within twice that number, and to within one tick (if the
+clock gains, only with the shortway correction).
 
 docs/DEFINITIONS.md, "What coordination promises, left undisturbed".
 """
@@ -16,8 +16,8 @@ from model.words import Kind
 
 
 def pickup_bound(versions: list[Tables]) -> int:
-    """Returns within how many ticks a pattern that is sought is picked up: each time is the greatest over some
-    versions, column by column."""
+    """Returns within how many ticks a pattern that is sought is picked up: each time is the longest over some versions,
+    column by column."""
     used = {p for tables in versions for p in enabled(tables)}
 
     def greatest(p: int, column: str) -> int:
@@ -58,7 +58,7 @@ def is_near(cycle: int, seen: Seen, is_drifting: bool) -> bool:
 
 
 def after(street: Street, disturbed: Tick, last: int) -> Iterator[str]:
-    """Tells what the ticks behind a disturbance, up to the last quiet one, show against this promise."""
+    """Yields what is wrong in the ticks after a disturbance, up to the last quiet one."""
     tables, number = street.tables(disturbed.shown), disturbed.command
     if not is_defined(tables, number):
         return
@@ -82,6 +82,6 @@ def after(street: Street, disturbed: Tick, last: int) -> Iterator[str]:
 
 
 def offset(street: Street) -> Iterator[str]:
-    """Tells what a street shows against this promise."""
+    """Yields the violations of this promise in a street."""
     for disturbed, last in quiet_spans(street):
         yield from after(street, disturbed, last)

@@ -1,6 +1,6 @@
-"""Each clearance lasts exactly its time, by the tables that were in force as it began; a green lasts its least, and
-a walk with its clearance exactly, or no less than what the stage of a preempt leaves of them where it makes way for
-that."""
+"""Each clearance lasts exactly its time, by the tables that were in force as it began. A green lasts at least its
+minimum, and a walk with its clearance exactly its time. If the phase makes way for a preempt, each lasts no less than
+the preempt's stage leaves of it."""
 
 from collections.abc import Iterator
 from dataclasses import dataclass
@@ -12,7 +12,7 @@ from model.tables import Row, rows
 
 @dataclass(frozen=True)
 class Span:
-    """How long an interval may last: from least to most ticks; None where there is no most."""
+    """How long an interval may last: from least to most ticks; `most` is None if there isn't a maximum."""
 
     least: int
     most: int | None
@@ -41,7 +41,7 @@ def due(street: Street, it: Interval) -> Span | None:
 
 
 def times(street: Street) -> Iterator[str]:
-    """Tells what a street shows against this promise. What still runs as the trace ends must not have outlasted its
+    """Yields the violations of this promise in a street. What still runs as the trace ends must not have outlasted its
     time."""
     for of_signals in (False, True):
         for it in intervals(street, of_signals):

@@ -1,7 +1,7 @@
-"""What a trace tells of each cabinet: its frames, the tables of its versions, and what was told to it.
+"""What a trace says of each cabinet: its frames, the tables of its versions, and what it received.
 
 docs/TRACE.md. The tables of a version are the opening ones with the cells of the downloads that the L lines accept;
-these cells stand in the A lines, since an answer without a fault repeats what it answers.
+these cells are in the A lines, since an answer without a fault repeats what it answers.
 """
 
 from collections.abc import Iterator
@@ -41,7 +41,7 @@ class Seen:
 
 @dataclass(frozen=True)
 class Order:
-    """A pattern that was commanded, or a clock that was set, behind a tick."""
+    """A pattern that was commanded, or a clock that was set, after a tick."""
 
     tick: int
     scalar: Scalar
@@ -50,8 +50,8 @@ class Order:
 
 @dataclass(frozen=True)
 class LoadEnd:
-    """An L line behind a tick: the tables in force before it, those of the download, whether the cabinet was in
-    flash; the version that it names, or the rule that it tells."""
+    """An L line after a tick: the tables in force before it, those of the download, whether the cabinet was in flash;
+    the version that it names, or the broken rule."""
 
     tick: int
     in_force: Tables
@@ -63,7 +63,7 @@ class LoadEnd:
 
 @dataclass
 class Street:
-    """All that a trace tells of a cabinet."""
+    """All that a trace says of a cabinet."""
 
     number: int
     setup: CabinetSetup
@@ -76,8 +76,8 @@ class Street:
     parts: list[list[tuple[Cell, Value]]] = field(default_factory=list)
 
     def tables(self, seen: Seen) -> Tables:
-        """Returns the tables of the version that a frame names; those of the last where there is no such version
-        (whole.py tells of it)."""
+        """Returns the tables of the version that a frame names; if that version doesn't exist, those of the last
+        (whole.py reports it)."""
         return self.versions[min(seen.version, len(self.versions) - 1)]
 
     def staged(self) -> Tables:
@@ -98,7 +98,7 @@ def seen_in(words: list[str]) -> Seen:
 
 
 def hear(street: Street, message: Message) -> None:
-    """Takes an answer without a fault to a Set: a download that begins or goes on, or what was commanded."""
+    """Takes an answer without a fault to a Set: a download that begins or continues, or an order."""
     names = [NAMES.get(bind.oid) for bind in message.binds]
     if names[:1] == [Scalar.BEGIN]:
         if message.binds[0].value > street.kept:
@@ -156,7 +156,7 @@ class Lines:
         return words
 
     def may(self, kind: str, *more: str) -> list[str] | None:
-        """Takes the next line where it begins with these words."""
+        """Takes the next line if it begins with these words."""
         try:
             return self.words(kind, *more)
         except Untold:
@@ -180,7 +180,7 @@ def hear_round(lines: Lines, street: Street) -> None:
 
 
 def streets_of(text: bytes) -> tuple[Scenario, list[Street]]:
-    """Returns the scenario of a trace, and what the trace tells of each cabinet."""
+    """Returns the scenario of a trace, and what the trace says of each cabinet."""
     lines = Lines(text)
     scenario = content(read_value(" ".join(lines.words("S"))[2:].encode("latin-1")))
     streets = [Street(number, it, [it.tables]) for number, it in enumerate(scenario.cabinets, 1)]
@@ -198,8 +198,8 @@ def streets_of(text: bytes) -> tuple[Scenario, list[Street]]:
 
 @dataclass(frozen=True)
 class Interval:
-    """A longest run of ticks with one colour or signal of a phase; `end` is the frame at which another is shown,
-    None where it still runs as the trace ends, and `after` what is shown then."""
+    """A longest run of ticks with one colour or signal of a phase; `end` is the frame that shows a different one, None
+    if it still runs as the trace ends, and `after` what that frame shows."""
 
     phase: int
     shows: str

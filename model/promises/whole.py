@@ -1,5 +1,5 @@
-"""All of a download comes into force between two ticks, or nothing of it: the version on each frame is the number of
-downloads accepted before it, and a download is accepted exactly where its tables keep all rules beside those in
+"""A download comes into force as a whole between two ticks, or not at all: the version on each frame is the number of
+downloads accepted before it, and a download is accepted exactly if its tables keep all rules, together with those in
 force."""
 
 from collections.abc import Iterator
@@ -9,7 +9,7 @@ from model.rules import first_broken
 
 
 def versions(street: Street) -> Iterator[str]:
-    """Tells of frames with another version than the number of downloads that were accepted before their tick."""
+    """Reports frames whose version isn't the number of downloads that were accepted before their tick."""
     accepted = [end.tick for end in street.ends if end.version is not None]
     for seen in street.seen:
         due = sum(tick < seen.tick for tick in accepted)
@@ -18,7 +18,7 @@ def versions(street: Street) -> Iterator[str]:
 
 
 def ends(street: Street) -> Iterator[str]:
-    """Tells of downloads whose end isn't what the rules of tables say, or has another number."""
+    """Reports downloads whose end isn't what the rules of tables say, or has another number."""
     count = 0
     for end in street.ends:
         broken = first_broken(end.staged, end.in_force, end.is_flashing)
@@ -30,7 +30,7 @@ def ends(street: Street) -> Iterator[str]:
 
 
 def changes(street: Street) -> Iterator[str]:
-    """Tells of downloads that were accepted and of which no frame at the next tick tells."""
+    """Reports downloads that were accepted, but that no frame at the next tick shows."""
     seen = {(it.tick, it.version) for it in street.seen}
     for number, end in enumerate((it for it in street.ends if it.version is not None), 1):
         later = [it for it in street.ends if it.version is not None and it.tick == end.tick]
@@ -40,7 +40,7 @@ def changes(street: Street) -> Iterator[str]:
 
 
 def whole(street: Street) -> Iterator[str]:
-    """Tells what a street shows against this promise."""
+    """Yields the violations of this promise in a street."""
     yield from versions(street)
     yield from ends(street)
     yield from changes(street)

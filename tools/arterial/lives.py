@@ -37,7 +37,7 @@ REFUSALS = {
 }  # fmt: skip
 """What a session answers to a request that isn't accepted (docs/LIVE.md), in words."""
 PART = 24
-"""A part of a download has so many cells."""
+"""How many cells a part of a download has at most."""
 WORD = 65_535
 
 
@@ -72,8 +72,8 @@ class Outcome(NamedTuple):
 class Street:
     """A live session, for one thread at a time: see `arterial.live`.
 
-    A request that isn't accepted raises `Refused`, changes nothing, and the session goes on. A program that dies or is
-    late raises `ProgramDied` or `Late`, and the session has ended. Leaving the `with` block ends the program in any
+    A request that isn't accepted raises `Refused`, changes nothing, and the session continues. A program that dies or
+    is late raises `ProgramDied` or `Late`, and the session has ended. Leaving the `with` block ends the program in any
     case; after that `trace` is the record, and every other request raises `Over`.
     """
 
@@ -136,7 +136,7 @@ class Street:
         return answers
 
     def _typed(self, answer: list[bytes]) -> list[Any]:
-        """Returns the records of an answer's lines, but for journals and rounds; frames are kept."""
+        """Returns the records of an answer's lines, except for journals and rounds; frames are kept."""
         found = [trace_lines.record(line + b"\n") for line in answer if line[:1] not in (b"J", b"R")]
         for it in found:
             if isinstance(it, Frame):
@@ -152,7 +152,7 @@ class Street:
                 self._record.cut()
 
     def _cabinet(self, number: int) -> int:
-        """Returns the number of a cabinet that is there."""
+        """Returns the number of a cabinet, which must exist."""
         if type(number) is not int or not 1 <= number <= self.cabinets:
             raise NoCabinet(f"the session has no cabinet {number!r}: it has {self.cabinets}, numbered from 1")
         return number
@@ -430,7 +430,7 @@ class AsyncStreet:
 
     @property
     def street(self) -> Street:
-        """The session behind: its `shown`, `trace`, `time_s` and `left` can be read at any time."""
+        """The session of this environment: its `shown`, `trace`, `time_s` and `left` can be read at any time."""
         if self._street is None:
             raise Over("the session isn't open: use it within async with")
         return self._street

@@ -15,7 +15,7 @@ SUFFIXES = (".svg", ".png", ".pdf")
 USUAL = {"rings": 180.0, "coordination": 300.0, "offset": float("inf")}
 """The kinds of pictures of a trace, and how many seconds each shows by default."""
 MOST = 3600.0
-"""A picture over time shows at most an hour: more can't be told apart."""
+"""A picture over time shows at most an hour: more isn't readable."""
 
 
 class Picture:
@@ -43,8 +43,8 @@ class Picture:
 
 
 def made(draw: Callable[[str], object], path: str | os.PathLike[str] | None) -> Picture:
-    """Returns the picture that a function draws into a file by its name; a path gets it, too. The reader's own figures
-    and settings of matplotlib stay as they are."""
+    """Returns the picture that a function draws into a file by its name; if a path is given, it is also drawn there.
+    The reader's own figures and settings of matplotlib stay as they are."""
     import matplotlib
     from matplotlib import pyplot  # before the tools, which then leave its way to show figures as it is
 

@@ -1,4 +1,4 @@
-"""The program behind this package: where it is, and whether it is the proved one."""
+"""The program that this package runs: where it is, and whether it is the proved one."""
 
 import functools
 import hashlib
@@ -18,7 +18,7 @@ TRIED = 'checkout=$1 program=; . "$1/tools/trust.sh"; is_tried && echo "$program
 """A shell script that prints the unproved program of a checkout, if it is one of the sources that are there."""
 
 HINT = "ARTERIAL_PROGRAM names one, and ./arterial prove makes one in a checkout"
-"""What is said where there is no program."""
+"""The hint that is added if a program isn't found."""
 
 
 class Program(NamedTuple):

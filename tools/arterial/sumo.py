@@ -32,13 +32,13 @@ class Kept(Session):
 
 
 class Steps(Loop):
-    """A run whose steps are taken by its caller, who brings requests of his own."""
+    """A run whose steps are taken by its caller, which adds its own requests."""
 
     own: list[bytes] = []
     detects = True
 
     def requests(self, is_whole: bool) -> list[bytes]:
-        """Returns what the cabinets are told before the ticks."""
+        """Returns the requests to the cabinets before the ticks."""
         found = list(super().requests(is_whole))
         if not self.detects:
             found = [it for it in found if not it.startswith(b"veh ")]
@@ -133,11 +133,11 @@ class Sumo:
         return tuple(it for it in names if it is not None)
 
     def waiting(self) -> int:
-        """Returns how many vehicles stand before stop lines."""
+        """Returns how many vehicles wait before stop lines."""
         return len(self.standing)
 
     def counted(self) -> Any:
-        """Returns how many vehicles stand, by cabinet and phase."""
+        """Returns how many vehicles have stopped, by cabinet and phase."""
         self.queues.fill(0.0)
         for lane, names in self.loop.halts.standing.items():
             if lane in self.places:

@@ -12,7 +12,7 @@ from .errors import Error, Over, Refused
 from .spaces import Space
 
 MOST = 256
-"""So many processes there may be at most."""
+"""The maximum number of processes."""
 SECONDS = 10.0
 """How long a process may take to end."""
 
@@ -46,7 +46,7 @@ def as_sent(fault: Exception) -> Exception:
 
 
 def answered(env: Any, name: str, given: Any) -> Any:
-    """Returns what an environment answers. One whose episode has ended begins the next one at once; info then has the
+    """Returns the answer of an environment. One whose episode has ended begins the next one at once; info then has the
     last observation and info of the one before."""
     if name == "reset":
         return env.reset(seed=given)
@@ -122,7 +122,7 @@ class VectorEnv:
         return [answer for _, answer in found]
 
     def _ask(self, name: str, given: Sequence[Any]) -> list[Any]:
-        """Returns what all answer to a request."""
+        """Returns the answers of all to a request."""
         if not self._pipes:
             raise Over("the environments are closed")
         try:

@@ -1,2 +1,2 @@
-"""What stands beside the proved program: the tools `./look` and `./cabinet`, the launcher, and what they share.
-Nothing of it is proved."""
+"""What comes with the proved program: the tools `./look` and `./cabinet`, the launcher, and what they share. Nothing of
+it is proved."""

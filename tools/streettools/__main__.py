@@ -5,7 +5,7 @@ import os
 import signal
 import sys
 
-# the launcher's shell starts Python with Ctrl-C ignored, so that there is no traceback of Python's own start
+# the launcher's shell starts Python with Ctrl-C ignored, which avoids a traceback of Python's own start
 signal.signal(signal.SIGINT, signal.SIG_DFL)
 
 if __name__ == "__main__" and not __package__:

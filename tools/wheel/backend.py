@@ -63,7 +63,7 @@ def project() -> dict[str, Any]:
 
 
 def modules() -> list[File]:
-    """Returns the files of the packages; a tree that was made from a source archive has its data, too."""
+    """Returns the files of the packages; a tree that was made from a source archive also has its data."""
     found = []
     for package in PACKAGES:
         for path in sorted((TOOLS / package).rglob("*")):

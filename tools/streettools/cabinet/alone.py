@@ -1,7 +1,7 @@
-"""The scenario in which one cabinet of a street lives alone, and the scenario of all that came to it.
+"""The scenario that has only one cabinet of a street, and the scenario of all that it received.
 
-Cabinets know nothing of each other, so a cabinet alone gives the same answers as among the others. A session asks that
-downloads and priority requests stand by rounds; a later download doesn't pass one that is listed before it.
+Cabinets know nothing of each other, so a single cabinet gives the same answers as among the others. A session requires
+downloads and priority requests in the order of rounds; a later download doesn't pass one that is listed before it.
 """
 
 import json
@@ -38,7 +38,8 @@ def alone(scenario: Scenario, cabinet: int) -> Scenario:
 
 
 def with_all(scenario: Scenario, cabinet: int, rounds: int, frames: list[dict]) -> bytes:
-    """Returns the whole scenario with the messages that came to a cabinet, in so many rounds at least."""
+    """Returns the whole scenario with the messages that a cabinet received, with at least `rounds` rounds (at most what
+    a scenario may have)."""
     came = [frame | {"cabinet": cabinet} for frame in frames]
     rounds = max(min(rounds, rounds_for(scenario)), scenario["rounds"])
     return compact(scenario | {"rounds": rounds, "frames": [*scenario.get("frames", ()), *came]})

@@ -55,7 +55,7 @@ class Sets(Hearer):
         self.record.lines.clear()
 
     def size(self) -> int:
-        """Returns about how many octets the messages have in a scenario."""
+        """Returns about how many bytes the messages have in a scenario."""
         return self.record.added_size + OF_FRAME * len(self.record.added["frames"])
 
     def is_full(self) -> bool:
@@ -64,7 +64,7 @@ class Sets(Hearer):
 
 @dataclass
 class Cabinet:
-    """A cabinet that answers: its street, its place, the whole scenario, and what came to it."""
+    """A cabinet that answers: its street, its place, the whole scenario, and the messages that it received."""
 
     words: argparse.Namespace
     scenario: dict[str, Any]
@@ -162,7 +162,7 @@ def cabinet_of(words: argparse.Namespace) -> Cabinet:
 
 
 def answered(cabinet: Cabinet) -> int:
-    """Lets a cabinet answer to its end, and returns the exit status."""
+    """Runs a cabinet until it ends, and returns the exit status."""
     status = Status.DONE
     try:
         asyncio.run(cabinet.serve())
@@ -176,7 +176,7 @@ def answered(cabinet: Cabinet) -> int:
 def main(arguments: list[str] | None = None) -> int:
     """Runs the command, and returns the exit status."""
     words = parser().parse_args(arguments)
-    # also where it was started with SIGINT ignored, as a shell does behind `&`
+    # even if it was started with SIGINT ignored, as a shell does after `&`
     signal.signal(signal.SIGINT, signal.default_int_handler)
     try:
         return answered(cabinet_of(words))

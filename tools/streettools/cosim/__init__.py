@@ -1,1 +1,1 @@
-"""Traffic under the cabinets of a session: who drives it, what is recorded of it, what it comes to."""
+"""Traffic under the cabinets of a session: what simulates it, what is recorded of it, its results."""

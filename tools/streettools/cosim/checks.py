@@ -1,4 +1,4 @@
-"""What is asked of a map before anything runs: by the network, by the tables of the cabinets."""
+"""The checks of a map before anything runs: by the network, by the tables of the cabinets."""
 
 import itertools
 from collections.abc import Callable, Iterator
@@ -129,7 +129,8 @@ def movement_of(signal: MappedSignal, link: Link) -> MappedMovement:
 
 
 class Side(NamedTuple):
-    """A link of a pair whose paths cross, its movement, and a phase under which it has way."""
+    """A link of a pair whose paths cross, its movement, and a phase under which it has the right of way or a green that
+    yields."""
 
     link: Link
     movement: MappedMovement
@@ -137,8 +138,8 @@ class Side(NamedTuple):
 
 
 def lets_go(network: Network, one: Side, other: Side) -> bool:
-    """Tells whether a link under a phase gives way to another: SUMO lets it, and the map says so by name, or it turns
-    under its permissive phase and meets who comes from opposite, or pedestrians."""
+    """Tells whether a link under a phase gives way to another. SUMO has to let it, and the map has to name the other
+    movement, or the link has to turn under its permissive phase and meet opposing vehicles or pedestrians."""
     if not network.gives_way(one.link, other.link):
         return False
     if one.movement.yields_to(other.movement.name):
@@ -163,7 +164,8 @@ def clashes(signal: MappedSignal, network: Network, tables: Tables) -> Iterator[
 
 
 def yielding_in(street: Map, network: Network, scenario: dict[str, Any]) -> Callable[[Link, Link], bool]:
-    """Returns what tells whether a link has a phase under which it yields to another link that may be on then."""
+    """Returns a function that tells whether a link has a phase under which it yields to another link that may be on
+    then."""
     tables = tables_of(scenario)
     signals = {it.id: it for it in street.signals}
 
@@ -191,7 +193,7 @@ def check_conflicts(street: Map, signal: MappedSignal, network: Network, tables:
 
 
 def who_yields(network: Network, one: Side, other: Side) -> tuple[str, str]:
-    """Returns the name of the movement that SUMO lets give way, and to which; none where SUMO lets neither."""
+    """Returns the name of the movement that SUMO lets give way, and to which; none if SUMO lets neither."""
     for a, b in ((one, other), (other, one)):
         if network.gives_way(a.link, b.link) and not a.movement.walk:
             return a.movement.name, b.movement.name

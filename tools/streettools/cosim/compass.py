@@ -2,9 +2,9 @@
 drives along the main street, and 4, 6 and 8 follow by quarter turns to the right. If 2 is eastbound, 4 is southbound, 6
 westbound, 8 northbound, and 5, 7, 1 and 3 are their left turns. Right turns go with the straight ones.
 
-An approach that has none opposite takes its left turns along with its own phase, as the stem of a T does. A left turn
-that shares its lane with another movement goes with the phase of that lane, and yields. Where it is asked for, a left
-turn with a phase of its own is permissive under the phase of those who come from opposite.
+An approach without an opposite one serves its left turns with its own phase, as the stem of a T does. A left turn that
+shares its lane with another movement goes with the phase of that lane, and yields. If it is asked for, a left turn with
+a phase of its own is permissive under the phase of opposing vehicles.
 """
 
 from collections import defaultdict
@@ -22,9 +22,9 @@ LETTER = {LEFT: "L", RIGHT: "R", TURN: "U"}
 
 @dataclass
 class LinkPhase:
-    """What could be told of a link: its movement's name, and its phase, None where it is to be asked for, with why; and
-    under which phase it is permissive. `is_said` tells that the user gave the phase, `is_weak` that the network's own
-    program has it give way in its phase."""
+    """What was found of a link: its movement's name, its phase (None if the user has to give it, with the reason), and
+    the phase under which it is permissive. `is_said` means that the user gave the phase, `is_weak` that the network's
+    own program has it give way in its phase."""
 
     link: Link
     name: str
@@ -74,7 +74,7 @@ class Compass:
             self.turns[it.start].add(it.turn)
 
     def straight(self, way: int) -> int | None:
-        """Returns the phase that drives a way: where its own isn't enabled, that of the opposite way."""
+        """Returns the phase that drives a way: if its own isn't enabled, that of the opposite way."""
         own = (STRAIGHT_PHASES[(way - self.main + turned) % 4] for turned in (0, 2))
         return next((it for it in own if it in self.enabled), None)
 
@@ -84,11 +84,11 @@ class Compass:
         return LinkPhase(link, name, phase, "" if phase else f"the cabinet has no phase that drives {WAYS[way]}")
 
     def told(self) -> list[LinkPhase]:
-        """Returns what can be told of each link."""
+        """Returns what is found of each link."""
         return [self.crossing(it) if it.turn == CROSSING else self.turn(it) for it in self.links]
 
     def turn(self, link: Link) -> LinkPhase:
-        """Tells of a link of vehicles."""
+        """Returns what is found of a link of vehicles."""
         way = way_of(self.network.edges[link.approach].heading)
         own = self.ways[way]
         place = "" if len(own) == 1 else str(own.index(link.approach) + 1)
@@ -104,7 +104,7 @@ class Compass:
         return self.on_phase(link, name, way)
 
     def crossing(self, link: Link) -> LinkPhase:
-        """Tells of a crossing: it is walked along with the traffic that has it on its right."""
+        """Returns what is found of a crossing: it is walked along with the traffic that has it on its right."""
         crossed = self.network.crossings[link.end.rpartition("_")[0]]
         edges = [self.network.edges[it] for it in crossed if it in self.network.edges]
         coming = [it for it in edges if it.end == link.junction]
@@ -123,8 +123,8 @@ class Compass:
 
 
 def by_nema(network: Network, signal: str) -> list[LinkPhase]:
-    """Tells of each link by SUMO's own NEMA logic: its phase is the one whose state gives it way. A left turn that has
-    way under one phase and gives way under another is permissive there."""
+    """Returns what is found of each link by SUMO's own NEMA logic: its phase is the one whose state gives it a green. A
+    left turn that has the right of way under one phase and gives way under another is permissive there."""
     stages = [it for it in network.programs[signal].stages if it.name.isdigit()]
     compass = Compass(network, signal, None)
     found = []

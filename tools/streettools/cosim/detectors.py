@@ -1,8 +1,9 @@
 """The detectors of SUMO: which of them call which phase, and what of it has changed.
 
-An area is on while a vehicle is in it. A loop is on while a vehicle is over it; one that was crossed between two
-looks is told as on and off. What the tool builds are long loops, which cost SUMO a tenth of what its areas do. A long
-loop misses a vehicle that changes lanes within its length, so once a second who stands there is looked for.
+An area is on while a vehicle is in it. A loop is on while a vehicle is over it; one that was crossed between two looks
+is reported as on and off. What the tool builds are long loops, which cost SUMO a tenth of what its areas do. A long
+loop misses a vehicle that changes lanes within its length, so once a second the tool looks for vehicles that have
+stopped there.
 """
 
 import pathlib
@@ -16,7 +17,7 @@ from .mapping import Map
 from .network import Network
 
 RARELY = 100_000
-"""Seconds after which SUMO would write what a loop saw; nobody reads it."""
+"""Seconds after which SUMO writes what a loop saw; the file isn't read."""
 Key = tuple[int, int]
 """A cabinet and a phase."""
 
@@ -54,13 +55,13 @@ class Areas:
 
 
 def place(lane: str, metres: float, length: float, setback: float) -> Place:
-    """Returns where a detector lies on a lane of so many metres."""
+    """Returns where a detector lies on a lane, which is `metres` long."""
     end = max(metres - max(setback, 0.1), min(metres, 1.0))
     return Place(lane, round(max(end - length, 0), 2), round(end, 2))
 
 
 class Stray(NamedTuple):
-    """A vehicle that stands on a loop which doesn't see it: its lane, and the metre at which the loop begins."""
+    """A vehicle that has stopped on a loop which doesn't see it: its lane, and the metre at which the loop begins."""
 
     vehicle: str
     lane: str
@@ -77,8 +78,9 @@ class Row(NamedTuple):
 
 
 class Detectors:
-    """What calls each phase: a phase has a vehicle where one of its detectors has. `step` is SUMO's, in seconds. Rows
-    and loops are told by their places; a loop that was left since the look before by its place below zero (`~`)."""
+    """What calls each phase: a phase has a vehicle if one of its detectors has. `step` is SUMO's, in seconds. Rows and
+    loops are identified by their places; a loop that was left since the look before by the complement of its place
+    (`~`)."""
 
     def __init__(self, street: Map, areas: Areas, sumo: Any, step: float) -> None:
         rows = rows_of(street, areas, sumo)
@@ -98,12 +100,12 @@ class Detectors:
         self.position = call(sumo, "vehicle", "getLanePosition")
         self.on: set[int] = set()
         self.over: list[int] | None = []
-        """The loops that somebody was over at the last look; None where one had been left just before."""
+        """The loops that a vehicle was over at the last look; None if one had been left just before."""
         self.strays: dict[int, list[Stray]] = {}
-        """By row who stands on a loop that doesn't see them."""
+        """By row, the vehicles that have stopped on a loop that doesn't see them."""
 
     def changes(self) -> list[bytes]:
-        """Returns the requests that tell what has changed since the last look."""
+        """Returns the requests for detectors that have changed since the last look."""
         recent = self.recent
         seconds = enumerate(map(self.since, self.loops))
         over = [~place if it else place for place, it in seconds if it < recent]
@@ -125,7 +127,7 @@ class Detectors:
         return told
 
     def seen_otherwise(self, on: set[int]) -> set[int]:
-        """Returns the rows, beside some that are on, that have a vehicle in an area or one that no loop sees."""
+        """Returns the rows that have a vehicle in an area, or one that no loop sees; rows in `on` are left out."""
         found = {row for row, areas in self.areas if row not in on and any(map(self.in_area, areas))}
         for row in [row for row in self.strays if row not in on and row not in found]:
             if self.has_stray(row):
@@ -133,7 +135,8 @@ class Detectors:
         return found
 
     def look_for_strays(self, standing: dict[str, list[str]]) -> None:
-        """Looks for vehicles that stand on a loop which doesn't see them; `standing` has those of each lane."""
+        """Looks for vehicles that have stopped on a loop which doesn't see them; `standing` has the stopped ones of
+        each lane."""
         for lane in standing:
             for row, start in self.built.get(lane, ()):
                 if row not in self.on:
@@ -154,7 +157,7 @@ class Detectors:
 
 
 def rows_of(street: Map, areas: Areas, sumo: Any) -> list[Row]:
-    """Returns what calls each phase; a name that SUMO hasn't is refused."""
+    """Returns what calls each phase; refuses a name that SUMO doesn't have."""
     loops, lanes = set(sumo.inductionloop.getIDList()), set(sumo.lanearea.getIDList())
     own: dict[Key, tuple[list[str], list[str]]] = defaultdict(lambda: ([], []))
     for key, names in areas.names.items():

@@ -1,5 +1,5 @@
 """Saturation flow and lost time of each lane in a run of SUMO, by the field method of the Highway Capacity Manual: when
-those pass the stop line who stood before it, of greens that begin with a queue (docs/MEASURES.md).
+vehicles of the queue pass the stop line, in greens that begin with a queue (docs/MEASURES.md).
 """
 
 import bisect
@@ -15,7 +15,8 @@ from .records import LaneFlow
 from .signals import GREEN
 
 LEAST, FIRST = 8, 4
-"""A green counts that begins with a queue of so many; its headway is that of those after the first four."""
+"""A green counts if it begins with a queue of at least this number of vehicles; its headway is that of those after the
+first four."""
 CLEARS, APART = 6.0, 6.0
 """Seconds after the end of a green in which a vehicle may still pass; between two of a queue."""
 History = dict[str, list[tuple[float, str]]]
@@ -43,7 +44,7 @@ def approaches(network: Network, cabinets: dict[str, int]) -> list[Approach]:
 
 
 class Crossings:
-    """Looks once a second who is on the lanes over junctions: from which lane each vehicle left an edge."""
+    """Looks once a second which vehicles are on the lanes over junctions: from which lane each left an edge."""
 
     def __init__(self, network: Network, signals: Iterable[str], sumo: Any) -> None:
         self.froms = {
@@ -59,7 +60,7 @@ class Crossings:
         """The lane from which a vehicle left an edge."""
 
     def look(self) -> None:
-        """Keeps who is over junctions now."""
+        """Keeps the vehicles that are over junctions now."""
         for name, count in zip(self.names, map(self.count, self.names)):
             if count:
                 lane = self.froms[name]
@@ -68,12 +69,12 @@ class Crossings:
 
 
 Passages = dict[str, list[tuple[float, bool]]]
-"""Of each lane when vehicles passed its stop line, and whether each had stood before it."""
+"""For each lane, when vehicles passed its stop line, and whether each had stopped before it."""
 
 
 def passages_of(traffic: Traffic, halts: Iterable[Halt], crossed: dict[tuple[str, str], str]) -> Passages:
-    """Returns who passed which lane's stop line: by the lane from which each was seen to leave its edge, otherwise by
-    the one on which it stood last there."""
+    """Returns which vehicles passed which lane's stop line: by the lane from which each was seen to leave its edge,
+    otherwise by the one on which it stopped last there."""
     stood = {(vehicle, it.edge): it.lane for it in halts for vehicle in it.vehicles}
     found: Passages = defaultdict(list)
     for vehicle, ways in traffic.ways.items():
@@ -102,7 +103,7 @@ def greens_of(history: list[tuple[float, str]], places: tuple[int, ...]) -> list
 
 
 def queued(passed: list[tuple[float, bool]], start: float, end: float) -> list[float]:
-    """Returns how long after the beginning of a green those passed who had stood, as long as one follows another."""
+    """Returns how long after the beginning of a green the stopped vehicles passed, as long as one follows another."""
     found: list[float] = []
     for at, has_stood in passed[bisect.bisect_left(passed, (start, False)) :]:
         if not has_stood or at > end + CLEARS or found and at - start - found[-1] > APART:
@@ -112,7 +113,7 @@ def queued(passed: list[tuple[float, bool]], start: float, end: float) -> list[f
 
 
 def lane_flow(it: Approach, history: History, passed: Passages) -> LaneFlow | None:
-    """Returns saturation flow and lost time of a lane, None where no green began with a queue."""
+    """Returns saturation flow and lost time of a lane, None if no green began with a queue."""
     greens = vehicles = 0
     beyond = fourth = 0.0
     for start, end in greens_of(history[it.signal], it.places):
@@ -133,7 +134,7 @@ def lane_flows(lanes: list[Approach], history: History, passed: Passages) -> lis
 
 
 def difference(flows: list[LaneFlow], saturation: float, lost: float) -> str:
-    """Returns in a line how a run's lanes differ from what is assumed elsewhere, empty where they don't."""
+    """Returns in a line how a run's lanes differ from what is assumed elsewhere, empty if they don't."""
     if not flows:
         return "no green began with eight vehicles that stood, so saturation flow and lost time weren't measured"
     rates, times = sorted(it.saturation for it in flows), sorted(it.lost for it in flows)

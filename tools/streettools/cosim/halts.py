@@ -1,4 +1,4 @@
-"""Who stands on the approaches of signals, second by second: queues and stops are told from it."""
+"""Which vehicles have stopped on the approaches of signals, second by second: queues and stops are counted from it."""
 
 from collections.abc import Iterable
 from typing import Any, NamedTuple
@@ -7,11 +7,11 @@ from .drive import call
 from .network import CROSSING, Network, edge_of
 
 STANDING = 0.1
-"""SUMO's own bound: who is slower than this, in metres a second, stands."""
+"""SUMO's own bound: a vehicle that is slower than this, in metres a second, has stopped."""
 
 
 class Halt(NamedTuple):
-    """Vehicles that stand on a lane of an edge at a second, and not at a stop of their line."""
+    """Vehicles that have stopped on a lane of an edge at a second, and not at a stop of their line."""
 
     second: float
     edge: str
@@ -49,7 +49,7 @@ def is_back(network: Network, one: str, other: str) -> bool:
 
 
 class Halts:
-    """Looks at the lanes of approaches, and at further ones where somebody else asks who stands there."""
+    """Looks at the lanes of approaches, and at further ones whose stopped vehicles another part needs."""
 
     def __init__(self, network: Network, signals: Iterable[str], sumo: Any, further: Iterable[str] = ()) -> None:
         edges = {it for chain in approaches(network, signals).values() for it in chain}
@@ -58,7 +58,7 @@ class Halts:
         self.further = [lane for lane in dict.fromkeys(further) if lane not in set(driven)]
         self.found: list[Halt] = []
         self.standing: dict[str, list[str]] = {}
-        """Who stands on each lane, at stops of their lines too, by the last look."""
+        """The stopped vehicles on each lane by the last look, including those at stops of their lines."""
         self.without_stop: set[str] = set()
         self.sumo = sumo
         self.halting = call(sumo, "lane", "getLastStepHaltingNumber")
@@ -67,7 +67,7 @@ class Halts:
         self.stops = call(sumo, "vehicle", "getStops")
 
     def look(self, second: float) -> None:
-        """Keeps who stands now."""
+        """Keeps the vehicles that have stopped now."""
         without_stop, standing, found = self.without_stop, {}, self.found
         for (lane, edge), count in zip(self.lanes, map(self.halting, self.names)):
             if count:
@@ -81,7 +81,7 @@ class Halts:
         self.standing = standing
 
     def who(self, lane: str, count: int) -> list[str]:
-        """Returns who stands on a lane, where so many do; they are looked for from its end on."""
+        """Returns the stopped vehicles on a lane, of which there are `count`; they are looked for from its end on."""
         there = self.there(lane)
         if count == len(there):
             return list(there)
@@ -94,7 +94,8 @@ class Halts:
         return found
 
     def is_at_stop(self, vehicle: str) -> bool:
-        """Tells whether a vehicle stands at a stop of its line. One that has no stop before it is not asked again."""
+        """Tells whether a vehicle is at a stop of its line. If it has no stop ahead, SUMO isn't asked about it
+        again."""
         if vehicle in self.without_stop:
             return False
         if not self.stops(vehicle, 1):

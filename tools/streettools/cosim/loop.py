@@ -1,5 +1,5 @@
-"""SUMO and the cabinets side by side: each step of SUMO is told to the cabinets, and what they show then is what SUMO's
-vehicles see in the next.
+"""SUMO and the cabinets side by side: the cabinets receive what each step of SUMO changes, and what they show then is
+what SUMO's vehicles see in the next step.
 """
 
 import contextlib
@@ -62,7 +62,7 @@ class Given:
         return math.floor(self.seconds / self.step + 1e-9)
 
     def for_session(self) -> dict[str, Any]:
-        """Returns the scenario with as many rounds as the run needs, and what comes in them."""
+        """Returns the scenario with as many rounds as the run needs, and its items in these rounds."""
         rounds = math.ceil(self.steps() * self.ticks() / self.scenario["ticks"])
         if rounds > MOST_ROUNDS:
             words = f"the run needs {rounds} rounds of {self.scenario['ticks']} ticks"
@@ -75,8 +75,7 @@ class Given:
 
 
 def is_later(item: Any, rounds: int) -> bool:
-    """Tells whether an item of a scenario comes behind so many rounds; what is wrong with it is for the program to
-    say."""
+    """Tells whether an item of a scenario has a round after `rounds`; the program reports items that are invalid."""
     number = item.get("round") if isinstance(item, dict) else None
     return isinstance(number, int) and number > rounds
 
@@ -167,7 +166,7 @@ class Loop:
         self.times.steps += 1
 
     def requests(self, is_whole: bool) -> list[bytes]:
-        """Returns what the cabinets are told before the ticks; slow things are looked at once a second."""
+        """Returns the requests to the cabinets before the ticks; what changes slowly is read once a second."""
         if is_whole:
             self.halts.look(self.second)
             self.crossings.look()
@@ -188,7 +187,7 @@ class Loop:
 
 
 class Standing:
-    """How many vehicles stand on the lanes of each movement, by the last look at halts."""
+    """How many stopped vehicles the lanes of each movement have, by the last look at halts."""
 
     def __init__(self, street: Map, halts: Halts) -> None:
         self.halts = halts
@@ -199,7 +198,7 @@ class Standing:
         }
 
     def waiting(self, cabinet: int, movement: str) -> int:
-        """Returns how many vehicles stand on the lanes of a movement."""
+        """Returns how many stopped vehicles the lanes of a movement have."""
         return sum(len(self.halts.standing.get(lane, ())) for lane in self.lanes[cabinet, movement])
 
 

@@ -1,4 +1,4 @@
-"""A map written from a network: what can be told, and what is to be asked for."""
+"""A map written from a network: what can be found there, and what the user has to give."""
 
 import itertools
 from collections.abc import Iterable, Sequence
@@ -29,8 +29,8 @@ class Question:
 
 @dataclass
 class Row:
-    """A movement of a map that is made. `yields` names those to which it gives way; `is_said` tells that the user gave
-    its phase, `may_yield` that the user lets it give way."""
+    """A movement of a map that is made. `yields` names the movements to which it gives way; `is_said` means that the
+    user gave its phase, `may_yield` that the user lets it give way."""
 
     name: str
     phase: int | None
@@ -114,7 +114,7 @@ class Maker:
         return "\n".join(parts)
 
     def told(self, signal: str, tables: Tables) -> list[LinkPhase]:
-        """Returns what is found of a signal's links, answers put in."""
+        """Returns what is found of a signal's links, together with the user's answers."""
         program = self.network.programs.get(signal)
         if program is not None and program.kind == "NEMA":
             found = by_nema(self.network, signal)
@@ -152,8 +152,8 @@ class Maker:
             self.questions.append(Question(signal, name, f"which phase has {name}? {why}", how))
 
     def let_yield(self, signal: str, rows: list[Row], tables: Tables) -> None:
-        """Lets turns yield to pedestrians and to who comes from opposite, where SUMO has them give way and the user
-        didn't give a phase; of others that cross and may be on at once the user decides."""
+        """Lets turns yield to pedestrians and to opposing vehicles, if SUMO has them give way and the user didn't give
+        a phase; the user decides about others that cross and may be on at once."""
         for row in rows:
             if (signal, row.name) in self.said.yields:
                 self.used.add((signal, row.name))
@@ -187,7 +187,7 @@ class Maker:
         return self.network.gives_way(a, b) and (first.name in row.yields or is_permissive)
 
     def ask_clash(self, signal: str, one: tuple[Row, Link, int], other: tuple[Row, Link, int]) -> None:
-        """Asks what is meant of two movements that cross and may be on at once."""
+        """Asks what the user wants for two movements that cross and may be on at once."""
         (row, a, p), (first, b, q) = one, other
         on = f"both have phase {p}" if p == q else f"their phases {p} and {q} may be on at once"
         yielding = next((it for it, x, y in ((row, a, b), (first, b, a)) if self.network.gives_way(x, y)), row)

@@ -1,6 +1,6 @@
 """The map of a street: which link of SUMO has which phase of which cabinet, what calls which phase.
 
-A TOML file (docs/COSIM.md). Links are named by their lanes, so that a map of another network is told from it.
+A TOML file (docs/COSIM.md). Links are named by their lanes, so that a map of a different network is detected.
 """
 
 import pathlib
@@ -23,10 +23,10 @@ class Overlap:
 
 @dataclass(frozen=True)
 class MappedMovement:
-    """A movement: its name, the links of it, its phase or its overlap. If it `yields` its green gives way, as that of a
-    right turn over a crossing: to the movements that it names, or, with True, to all to whom SUMO lets it give way. A
-    `walk` is a crossing of pedestrians. A left turn may be `permissive` under another phase than its own: while that
-    one is green it has way, too, and gives way to vehicles from opposite and to pedestrians."""
+    """A movement: its name, the links of it, its phase or its overlap. If it `yields`, its green gives way, as that of
+    a right turn over a crossing: to the movements that it names, or, with True, to all to which SUMO lets it give way.
+    A `walk` is a crossing of pedestrians. A left turn may be `permissive` under a phase that isn't its own: while that
+    one is green the turn also has a green, and gives way to opposing vehicles and to pedestrians."""
 
     name: str
     links: tuple[str, ...]
@@ -80,7 +80,7 @@ class MappedSignal:
 @dataclass(frozen=True)
 class MappedBus:
     """Vehicles that ask for priority: classes or types of SUMO, the class and level of their requests, at how many
-    metres before the stop line they ask, for how many seconds behind their arrival they hold."""
+    metres before the stop line they ask, for how many seconds after their arrival they hold."""
 
     vehicles: tuple[str, ...]
     number_class: int
@@ -92,7 +92,7 @@ class MappedBus:
 @dataclass(frozen=True)
 class MappedPreempt:
     """A preempt's input: on while a vehicle of these classes or types is on one of these edges, or within `ahead`
-    metres before a stop line of the cabinet, on a way that one of `phases` serves (any, where none are named)."""
+    metres before a stop line of the cabinet, on a way that one of `phases` serves (any, if none are named)."""
 
     cabinet: int
     number: int
@@ -189,7 +189,7 @@ def signal_of(given: Given) -> MappedSignal:
 
 
 def bus_of(given: Given) -> MappedBus:
-    """Reads who asks for priority."""
+    """Reads which vehicles ask for priority."""
     return MappedBus(
         given.texts("vehicles"),
         given.within("class", int, 1, 10, 1),

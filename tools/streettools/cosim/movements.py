@@ -31,7 +31,7 @@ class Count:
     queue_time: float = 0.0
     queue_greatest: int = 0
     left: int = 0
-    """How many stood before the line at the end."""
+    """How many were in the queue at the end."""
     greens: int = 0
     failures: int = 0
     green_time: float = 0.0
@@ -39,9 +39,9 @@ class Count:
     arrivals: int = 0
     """How many would have passed the line in the time that counts, had nothing held them."""
     capacity: float | None = None
-    """How many the greens could have discharged; None where that isn't known."""
+    """How many the greens could have discharged; None if that isn't known."""
     full_time: float | None = None
-    """How long as many vehicles were before the line as fit there; None where there is no limit."""
+    """How long its storage was full; None if there isn't a limit."""
 
     def passed(self, it: Passage) -> None:
         """Counts a passage."""
@@ -52,8 +52,8 @@ class Count:
         self.delays.append(it.delay)
 
     def add(self, other: "Count") -> None:
-        """Puts another movement to this one: queues of several have no greatest in common, so the greatest of one
-        stands."""
+        """Adds another movement to this one. Queues of several movements have no common maximum, so the longest queue
+        of one is kept."""
         for name in SUMS:
             setattr(self, name, getattr(self, name) + getattr(other, name))
         self.delays += other.delays
@@ -85,8 +85,7 @@ def greens_of(movement: Movement, greens: Greens) -> Spans:
 
 
 def failed(starts: list[float], passages: Iterable[Passage]) -> set[float]:
-    """Returns the greens, by their starts, that left somebody behind who stood there as they began, and who passed in a
-    later green."""
+    """Returns the greens, by their starts, in which a vehicle of the queue didn't pass, and passed in a later green."""
     found: set[float] = set()
     for it in passages:
         first, served = bisect_right(starts, it.arrived), bisect_right(starts, it.released) - 1
@@ -157,7 +156,7 @@ def counted_trips(study: Study) -> list[Trip]:
 
 
 def reached(trips: Iterable[Trip]) -> Iterator[tuple[Key, float]]:
-    """Yields each movement that a vehicle came to, with when; also the last one, where it waited at the end."""
+    """Yields each movement that a vehicle reached, with the time; also the last one, if it waited there at the end."""
     for trip in trips:
         for it in trip.passages:
             yield (it.cabinet, it.movement), it.arrived
@@ -200,7 +199,7 @@ def is_of_persons(movement: Movement) -> bool:
 
 @dataclass
 class RouteCount:
-    """What is counted of the trips of a route: those that came to their end, their times of travel, delay, stops."""
+    """What is counted of the trips of a route: those that were completed, their times of travel, delay, stops."""
 
     trips: int = 0
     arrived: int = 0
@@ -219,7 +218,7 @@ class RouteCount:
 
 
 def routes(study: Study) -> dict[tuple[Kind, str], RouteCount]:
-    """Returns what is counted of each route, by who takes it."""
+    """Returns what is counted of each route, by kind of vehicle or person."""
     found: dict[tuple[Kind, str], RouteCount] = {}
     for it in counted_trips(study):
         found.setdefault((it.kind, it.route), RouteCount()).trip(it)
@@ -227,7 +226,7 @@ def routes(study: Study) -> dict[tuple[Kind, str], RouteCount]:
 
 
 def kinds(study: Study) -> dict[Kind, RouteCount]:
-    """Returns what is counted of all trips, by who takes them."""
+    """Returns what is counted of all trips, by kind of vehicle or person."""
     found: dict[Kind, RouteCount] = {}
     for it in counted_trips(study):
         found.setdefault(it.kind, RouteCount()).trip(it)

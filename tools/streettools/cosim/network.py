@@ -21,7 +21,7 @@ OF_TRAINS = ("rail_crossing", "rail_signal")
 """Kinds of junctions whose signals SUMO switches by the trains themselves; no cabinet has them."""
 STRAIGHT, LEFT, RIGHT, TURN, CROSSING = "s", "l", "r", "t", "c"
 OPPOSITE = 120
-"""Approaches whose headings differ by at least so many degrees are opposite."""
+"""Approaches whose headings differ by at least this number of degrees are opposite."""
 TURNS = {"s": STRAIGHT, "l": LEFT, "L": LEFT, "r": RIGHT, "R": RIGHT, "t": TURN}
 
 
@@ -89,7 +89,7 @@ class Program(NamedTuple):
 @dataclass
 class Network:
     """All that is kept of a network. `foes` and `yields` have pairs of places in the matrix of each junction: paths
-    that cross or join, and who gives way to whom where both have a green that yields. `inner` is the way over a
+    that cross or join, and which gives way to which if both have a green that yields. `inner` is the way over a
     junction from an edge to an edge, `vias` the first lane over it of each link, by its name."""
 
     path: pathlib.Path
@@ -121,7 +121,7 @@ class Network:
 
     def meets(self, one: Link, other: Link) -> bool:
         """Tells whether a turn gives way to another link by the rules of the road while both are green: to a crossing,
-        and to who comes from opposite (within 60 degrees)."""
+        and to opposing vehicles (within 60 degrees)."""
         if CROSSING in (one.turn, other.turn):
             return one.turn != CROSSING
         turned = self.edges[one.approach].heading - self.edges[other.approach].heading
@@ -194,7 +194,7 @@ def read_edges(root: xml.Element, found: Network) -> None:
 
 
 def places_of(root: xml.Element, found: Network) -> dict[tuple[str, str], tuple[str, int]]:
-    """Returns the junction of each link and its place in the matrix; also reads who crosses whom."""
+    """Returns the junction of each link and its place in the matrix; also reads which links cross."""
     ways, crossings = defaultdict(list), defaultdict(list)
     for way in root.iter("connection"):
         start, end = of(way, "from"), of(way, "to")
@@ -239,7 +239,7 @@ def read_links(root: xml.Element, found: Network) -> None:
 
 
 def read_inner(root: xml.Element, found: Network) -> None:
-    """Reads the ways over junctions, which may be of two lanes, one behind the other."""
+    """Reads the ways over junctions, which may be of two lanes, one after the other."""
     parts = {of(it, "id"): Part(float(of(it, "length")), float(of(it, "speed"))) for it in root.iter("lane")}
     ways = [(it, it.attrib["via"]) for it in root.iter("connection") if it.get("via")]
     for it, via in ways:

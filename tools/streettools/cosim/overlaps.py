@@ -4,8 +4,8 @@ from .mapping import Overlap
 
 
 class OverlapLight:
-    """What an overlap shows: `G`, `Y`, `C` or `R`. It is told in their order of the ticks at which its cabinet's
-    colours change, and asked at any tick."""
+    """What an overlap shows: `G`, `Y`, `C` or `R`. `changed` takes the ticks at which its cabinet's colours change, in
+    their order; `at` answers for any later tick."""
 
     def __init__(self, overlap: Overlap) -> None:
         self.overlap = overlap
@@ -20,7 +20,7 @@ class OverlapLight:
         self.parent_is_green = any(colours[phase - 1] == "G" for phase in self.overlap.parents)
 
     def at(self, tick: int) -> str:
-        """Goes on to a tick, and returns what is shown there."""
+        """Advances to a tick, and returns what is shown there."""
         while self.tick < tick:
             self.tick += 1
             if self.parent_is_green:

@@ -21,7 +21,7 @@ KINDS = {"bus": Kind.BUS, "coach": Kind.BUS, "tram": Kind.BUS, "emergency": Kind
 RAIL = ("rail", "rail_urban", "rail_electric", "rail_fast")
 UNKNOWN_SPEED = 1000.0
 Stood = set[tuple[str, str]]
-"""Vehicles that stood, each with the edge."""
+"""Vehicles that stopped, each with the edge."""
 
 
 class Served(NamedTuple):
@@ -36,7 +36,7 @@ class Served(NamedTuple):
 
 class Way(NamedTuple):
     """A turn of a vehicle: what serves it, the edges on the way there, when it began that way and when it passed the
-    stop line (None where it didn't), and the parts of the way: edges, and the junctions before them."""
+    stop line (None if it didn't), and the parts of the way: edges, and the junctions before them."""
 
     served: Served
     edges: tuple[str, ...]
@@ -90,14 +90,14 @@ class Routes:
 
 
 def exits_of(text: str | None, count: int, begin: float) -> list[float | None]:
-    """Returns when each edge was left, None where it wasn't."""
+    """Returns when each edge was left, None if it wasn't."""
     seconds = [float(it) for it in (text or "").split()]
     found = [it - begin if it >= 0 else None for it in seconds[:count]]
     return found + [None] * (count - len(found))
 
 
 def routes_of(path: pathlib.Path) -> Iterator[tuple[str, list[str], str | None, float]]:
-    """Yields of each vehicle in SUMO's file of routes its name, its edges, when it left them, when it started."""
+    """Yields for each vehicle in SUMO's file of routes its name, its edges, when it left them, and when it started."""
     for _, element in xml.iterparse(path):
         if element.tag == "vehicle":
             route = list(element.iter("route"))[-1]
@@ -138,7 +138,8 @@ class Traffic:
             self.ways[name] = list(self.routes.ways(edges, left, depart - begun.late - begin, begun.place))
 
     def wait(self, pending: dict[str, list[str]], path: pathlib.Path, end: float) -> None:
-        """Takes the routes of those who wait to get in at the end of a run; their wait is in SUMO's file of trips."""
+        """Takes the routes of vehicles that wait to get in at the end of a run; their wait is in SUMO's file of
+        trips."""
         for name, begun in starts_of(path).items() if pending else ():
             if begun.place < 0 and name in pending:
                 edges = pending[name]
@@ -151,7 +152,7 @@ class Traffic:
         return way.entered + free + sum(self.stops.get((vehicle, it), 0.0) for it in way.edges)
 
     def waits(self, vehicle: str, factor: float, most: float, end: float) -> tuple[int, str, float] | None:
-        """Returns the stop line at which a vehicle waited when the run ended, None where it didn't."""
+        """Returns the stop line at which a vehicle waited when the run ended, None if it didn't."""
         ways = self.ways.get(vehicle, ())
         if not ways or ways[-1].passed is not None:
             return None
@@ -224,7 +225,7 @@ def trips_of(
 
 
 def stood_of(halts: list[Halt]) -> Stood:
-    """Returns who stood on which edge."""
+    """Returns which vehicles stopped on which edge."""
     return {(vehicle, it.edge) for it in halts for vehicle in it.vehicles}
 
 
@@ -238,7 +239,7 @@ def starts_of(path: pathlib.Path) -> dict[str, Begun]:
 
 
 def walks_of(path: pathlib.Path, begin: float) -> dict[str, tuple[float, float | None]]:
-    """Returns when each person began its way, and when it ended, None where it was under way."""
+    """Returns when each person began its way, and when it ended, None if it was under way."""
     found: dict[str, tuple[float, float | None]] = {}
     for _, element in xml.iterparse(path):
         if element.tag == "personinfo":

@@ -9,7 +9,7 @@ from .network import Network, edge_of
 from .signals import Signals
 
 STANDING = 0.1
-"""Who is slower than this, in metres a second, stands."""
+"""A person who is slower than this, in metres a second, stands."""
 
 
 class Waiting(NamedTuple):
@@ -20,7 +20,7 @@ class Waiting(NamedTuple):
 
 
 class Crossed(NamedTuple):
-    """A person who came to a crossing and went over it; `released` is None where the run ended before."""
+    """A person who arrived at a crossing and went over it; `released` is None if the run ended before."""
 
     person: str
     cabinet: int
@@ -43,8 +43,8 @@ class Crossing(NamedTuple):
 
 
 class Buttons:
-    """The push buttons of all crossings. A button is pressed by who stands there without walk, and not again until walk
-    has begun."""
+    """The push buttons of all crossings. A person who waits there without walk presses a button, and not again until
+    walk has begun."""
 
     def __init__(self, street: Map, network: Network, sumo: Any) -> None:
         known = set(sumo.edge.getIDList())
@@ -65,7 +65,7 @@ class Buttons:
         self.areas = sorted({area for it in self.crossings for area in it.areas})
 
     def look(self, sumo: Any, signals: Signals, second: float) -> Iterator[bytes]:
-        """Yields the requests of buttons that are pressed, and keeps who waits and who goes."""
+        """Yields the requests of buttons that are pressed, and keeps the persons who wait and those who go."""
         if not self.there and not self.count():
             self.pressed.clear()
             return
@@ -88,12 +88,12 @@ class Buttons:
             self.leave(crossing, set(coming.get(crossing.edge, ())), second)
 
     def leave(self, crossing: Crossing, here: set[str], second: float) -> None:
-        """Keeps who has gone over a crossing since the last look."""
+        """Keeps the persons who have gone over a crossing since the last look."""
         for person, edge in [key for key in self.there if key[1] == crossing.edge and key[0] not in here]:
             self.close(crossing, person, second)
 
     def close(self, crossing: Crossing, person: str, released: float | None) -> None:
-        """Keeps one who no longer waits."""
+        """Keeps a person who no longer waits."""
         waiting = self.there.pop((person, crossing.edge))
         stood = (person, crossing.edge) in self.stood
         self.stood.discard((person, crossing.edge))
@@ -101,7 +101,7 @@ class Buttons:
         self.crossed.append(Crossed(person, *row, waiting.since, released, waiting.on_walk, stood))
 
     def end(self) -> None:
-        """Keeps those who still wait at the end."""
+        """Keeps the persons who still wait at the end."""
         for crossing in self.crossings:
             for person, edge in list(self.there):
                 if edge == crossing.edge:

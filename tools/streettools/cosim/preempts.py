@@ -18,7 +18,8 @@ class Preempts:
         self.on: set[int] = set()
         """The places of the inputs that are on."""
         self.left: dict[tuple[MappedPreempt, str], float] = {}
-        """Who was told to an input, with the metres driven at which its head has left the edge, or passes the line."""
+        """The vehicles reported to an input, with the metres driven at which the head has left the edge, or passes the
+        line."""
         self.served: dict[tuple[str, int], tuple[int, tuple[int, ...]]] = {}
         """The cabinet and the phases of each link."""
         for signal in street.signals:
@@ -27,11 +28,11 @@ class Preempts:
                 self.served[signal.id, link.index] = signal.cabinet, phases[link.name]
 
     def names(self) -> set[str]:
-        """Returns the classes and types that are told."""
+        """Returns the classes and types that are reported."""
         return {name for item in self.items for name in item.vehicles}
 
     def look(self, sumo: Any, watched: Watched) -> Iterator[bytes]:
-        """Yields the requests that tell what has changed."""
+        """Yields the requests for inputs that have changed."""
         for place, item in enumerate(self.items):
             on = any([self.is_there(sumo, item, vehicle) for vehicle in watched.of(item.vehicles)])
             if on != (place in self.on):
@@ -53,7 +54,7 @@ class Preempts:
         return last is not None and driven < last + sumo.vehicle.getLength(vehicle)
 
     def before_line(self, sumo: Any, item: MappedPreempt, vehicle: str) -> float | None:
-        """Returns how many metres a vehicle has to the stop line of an input, None where it isn't near one."""
+        """Returns how many metres a vehicle has to the stop line of an input, None if it isn't near one."""
         for signal, index, metres, _ in sumo.vehicle.getNextTLS(vehicle):
             if metres > item.ahead:
                 return None

@@ -1,5 +1,5 @@
-"""Buses that ask for priority: a request by distance and speed, given anew where the arrival moves, taken back when the
-bus is past. A bus that is to stop before the stop line asks when it leaves the stop.
+"""Buses that ask for priority: a request by distance and speed, repeated if the arrival moves, cancelled when the bus
+has passed. A bus that is to stop before the stop line asks when it leaves the stop.
 """
 
 from collections.abc import Iterator
@@ -16,14 +16,15 @@ from .watched import Watched
 NUMBERS = range(1, 11)
 MOST_TICKS = 65_535
 SLOWEST = 5.0
-"""The speed in metres a second by which a slow bus is told."""
+"""The speed in metres a second that is assumed for a bus that is slower."""
 MOVED = 3.0
-"""By how many seconds an arrival moves before it is told anew."""
+"""By how many seconds an arrival moves before the request is repeated."""
 
 
 @dataclass
 class Asking:
-    """A request that is live: of which vehicle, where, its number and phase, when the bus is awaited."""
+    """A live request: its vehicle, its cabinet, its number and phase, when it was made, and the expected arrival of the
+    bus."""
 
     vehicle: str
     cabinet: int
@@ -54,7 +55,7 @@ class Priority:
         return {name for bus in self.buses for name in bus.vehicles}
 
     def look(self, sumo: Any, watched: Watched, second: float) -> Iterator[bytes]:
-        """Yields the requests and cancels that are due."""
+        """Yields the requests and cancels of this second."""
         if not watched.kinds and not self.live:
             return
         wanted: dict[tuple[str, int], tuple[MappedBus, int, float]] = {}
@@ -79,7 +80,7 @@ class Priority:
             yield self.given(asking, bus, second)
 
     def ahead(self, sumo: Any, vehicle: str, bus: MappedBus) -> tuple[int, int, float] | None:
-        """Returns the cabinet and phase before which a bus asks, and in how many seconds it comes; None where it
+        """Returns the cabinet and phase before which a bus asks, and in how many seconds it comes; None if it
         needn't."""
         for signal, index, distance, _ in sumo.vehicle.getNextTLS(vehicle):
             if signal not in self.cabinets:
@@ -97,7 +98,7 @@ class Priority:
         return any(edge_of(stop.lane) == sumo.vehicle.getRoadID(vehicle) for stop in sumo.vehicle.getStops(vehicle, 1))
 
     def free(self, cabinet: int) -> int | None:
-        """Returns a number that no live request of a cabinet has, None where all are taken."""
+        """Returns a number that no live request of a cabinet has, None if all are taken."""
         used = {it.number for it in self.live.values() if it.cabinet == cabinet}
         return next((it for it in NUMBERS if it not in used), None)
 

@@ -1,4 +1,4 @@
-"""What is recorded of a street with traffic, whoever drives it: trips, passages of stop lines, queues.
+"""What is recorded of a street with traffic, whatever simulates it: trips, passages of stop lines, queues.
 
 SUMO's runs and the model of queues both hand a `Study` to the report and the pictures. All times are seconds from the
 start of the run, so tick T of the trace is second T / 10; distances are metres.
@@ -26,12 +26,12 @@ class Kind(enum.StrEnum):
 
 
 class Movement(NamedTuple):
-    """A movement at an intersection: its cabinet (from 1), a name that is its own there (as `EBT`, `NBL`, or
-    `ped 4`), and the phase that serves it, None where an overlap does; `parents` are the phases of that overlap, or
-    the phase and the one under which it has way beside it, giving way. `service` is how a queue of it discharges: the
-    saturation flow of all its lanes in vehicles an hour, the start-up lost time and the part of yellow that is used, in
-    seconds; None where that isn't known, or where gaps decide. `storage` is how many vehicles fit before its stop line,
-    None where there is no limit."""
+    """A movement at an intersection: its cabinet (from 1), a name that is its own there (as `EBT`, `NBL`, or `ped 4`),
+    and the phase that serves it, None if an overlap does; `parents` are the phases of that overlap, or the phase and
+    the second one, under which it gives way. `service` is how a queue of it discharges: the saturation flow of all its
+    lanes in vehicles an hour, the start-up lost time and the part of yellow that is used, in seconds; None if that
+    isn't known, or if gaps decide. `storage` is how many vehicles fit before its stop line, None if there isn't a
+    limit."""
 
     cabinet: int
     name: str
@@ -46,10 +46,10 @@ class Movement(NamedTuple):
 
 
 class Passage(NamedTuple):
-    """A vehicle at one stop line. `arrived` is the second at which it would have passed the line had nothing held it
-    on its way there, `released` the second at which it passed; `delay` is what lies between, never below 0. `stopped`
-    tells that it stood on the approach, `on_green` that its movement had green at `arrived`. `phase` is the one of the
-    movement, None under an overlap."""
+    """A vehicle at one stop line. `arrived` is the second at which it would have passed the line if nothing had held it
+    on its way there, `released` the second at which it passed; `delay` is the difference, never below 0. `stopped`
+    means that it stopped on the approach, `on_green` that its movement had green at `arrived`. `phase` is the one of
+    the movement, None under an overlap."""
 
     cabinet: int
     movement: str
@@ -62,10 +62,10 @@ class Passage(NamedTuple):
 
 
 class Trip(NamedTuple):
-    """A whole way of a vehicle or a person. `route` is the name of the flow, the line or the route; `depart` is when
+    """A whole trip of a vehicle or a person. `route` is the name of the flow, the line or the route; `depart` is when
     it wanted to start, `arrive` when it was there, None if it was still under way at the end; `delay` is the time lost
-    against driving freely, with the wait to get in; `stops` is how often it stood. `waits` is the stop line at which it
-    waited when the run ended: the cabinet, the movement, and when it would have passed there; None where it didn't."""
+    against driving freely, with the wait to get in; `stops` is how often it stopped. `waits` is the stop line at which
+    it waited when the run ended: the cabinet, the movement, and when it would have passed there; None if it didn't."""
 
     vehicle: str
     route: str
@@ -89,8 +89,8 @@ class QueueSample(NamedTuple):
 
 
 def queue_samples(trips: Iterable[Trip], movements: Iterable[Movement]) -> list[QueueSample]:
-    """Returns how many vehicles waited at each stop line whenever that changed: those that would have passed it, had
-    nothing held them, and hadn't."""
+    """Returns how many vehicles waited at each stop line, whenever that changed: vehicles that would have passed it if
+    nothing had held them, and that hadn't."""
     changes: dict[tuple[int, str], list[tuple[float, int]]] = {(it.cabinet, it.name): [] for it in movements}
     for trip in trips:
         for it in trip.passages:
@@ -176,7 +176,7 @@ def written(study: Study) -> dict[str, Any]:
 
 
 def read(document: dict[str, Any], folder: pathlib.Path) -> Study:
-    """Returns the study that `written` gave; the trace stands in the folder."""
+    """Returns the study that `written` gave; the trace is in the folder."""
 
     def trip(row: list[Any]) -> Trip:
         vehicle, route, kind, passages, depart, arrive, delay, stops, waits = (*row, None)[:9]
@@ -204,7 +204,7 @@ def read(document: dict[str, Any], folder: pathlib.Path) -> Study:
 
 
 def save(study: Study, path: pathlib.Path) -> None:
-    """Writes a study beside its trace."""
+    """Writes a study next to its trace."""
     path.write_text(json.dumps(written(study), separators=(",", ":")) + "\n", encoding="utf-8")
 
 

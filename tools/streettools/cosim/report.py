@@ -39,7 +39,7 @@ def level(delay: float) -> str:
 
 
 def share(part: float, whole: float, places: int = 3) -> float | None:
-    """Returns a quotient, None where there is nothing to divide by."""
+    """Returns a quotient, None if there is nothing to divide by."""
     return round(part / whole, places) if whole else None
 
 
@@ -81,7 +81,7 @@ def cabinet_value(count: Count) -> Value:
 
 
 def route_value(count: RouteCount) -> Value:
-    """Returns what was counted of a route, or of all who are of a kind."""
+    """Returns what was counted of a route, or of all of a kind."""
     return {
         "trips": count.trips,
         "arrived": count.arrived,
@@ -92,7 +92,7 @@ def route_value(count: RouteCount) -> Value:
 
 
 def collect(study: Study, greens: Greens | None = None, more: More | None = None) -> Value:
-    """Returns the report; where no greens are given they come from the trace."""
+    """Returns the report; if no greens are given, they come from the trace."""
     more = more or More()
     found = counts(study, greens_in(study) if greens is None else greens)
     cabinets = {number: Count() for number in range(1, study.cabinets + 1)}
@@ -150,7 +150,7 @@ PLACED = ("cabinets", "movements", "crossings", "lanes")
 """The tables whose rows are at a cabinet."""
 LANES = {name: name for name in ("cabinet", "lane", "greens", "vehicles", "saturation", "lost")}
 SHOWN = 12
-"""So many routes are shown, those with the most trips first."""
+"""How many routes are shown at most, those with the most trips first."""
 
 
 def cell(value: Any) -> str:
@@ -159,7 +159,7 @@ def cell(value: Any) -> str:
 
 
 def table(rows: Iterable[Value], heads: dict[str, str]) -> str:
-    """Returns rows as a table; texts stand left, numbers right."""
+    """Returns rows as a table; texts are aligned left, numbers right."""
     given = list(rows)
     cells = [list(heads.values())] + [[cell(row[name]) for name in heads] for row in given]
     widths = [max(len(row[place]) for row in cells) for place in range(len(heads))]

@@ -27,8 +27,8 @@ TRACE, STUDY, REPORT = "session.trace", "study.json", "report"
 
 
 class Left(NamedTuple):
-    """What SUMO says at the end of a run: the class and the greatest speed of each type, the routes of those who wait
-    to get in."""
+    """What SUMO says at the end of a run: the class and the greatest speed of each type, the routes of vehicles that
+    wait to get in."""
 
     types: dict[str, tuple[str, float]]
     pending: dict[str, list[str]]
@@ -43,8 +43,7 @@ class Span(NamedTuple):
 
 @dataclass
 class Done:
-    """What came of a run: the study (None where nothing was recorded), times, and the fault that ended it before its
-    time."""
+    """The result of a run: the study (None if nothing was recorded), times, and the fault that ended it early."""
 
     study: Study | None
     times: Times
@@ -85,8 +84,8 @@ def preflight(given: Given, program: pathlib.Path) -> None:
 
 
 def run(given: Given, program: pathlib.Path, out: pathlib.Path, progress: Callable[[int], object]) -> Done:
-    """Runs SUMO and a session side by side, and writes what came of it into a folder, which is there. What is wrong is
-    told before SUMO starts; a run that ends before its time keeps what it has recorded."""
+    """Runs SUMO and a session side by side, and writes the results into an existing folder. Faults of the input are
+    reported before SUMO starts; a run that ends early keeps what it has recorded."""
     sumo = drive.module()
     session = Session(program, given.for_session())
     loop: Loop | None = None
@@ -169,7 +168,8 @@ def lanes_of(given: Given) -> list[discharge.Approach]:
 
 
 def persons_of(crossed: list[Crossed], walks: dict[str, tuple[float, float | None]]) -> list[Trip]:
-    """Returns the persons who came to crossings: their delay is their waits there, their trips are their whole ways."""
+    """Returns the persons who came to crossings: their delay is their waits there, their trips are their whole
+    walks."""
     rows: dict[str, list[Crossed]] = {}
     for it in crossed:
         rows.setdefault(it.person, []).append(it)

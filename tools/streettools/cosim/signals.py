@@ -15,9 +15,9 @@ YIELDING_COLOUR = {"G": "g", "Y": "y", "C": "r", "R": "r"}
 GREEN = "Gg"
 RED = "rR"
 YIELDING = "gy"
-"""Letters of who gives way; to the watch `Y` is the yellow behind a green with way."""
+"""Letters of links that give way; for the watch, `Y` is the yellow after a green with the right of way."""
 MayYield = Callable[[Link, Link], bool]
-"""Tells whether a link may have a green that yields while another has way."""
+"""Tells whether a link may have a green that yields while another has the right of way."""
 
 
 class Light:
@@ -61,7 +61,7 @@ class Light:
 
 
 class Crossing(NamedTuple):
-    """Two links whose paths cross; where both have way one may yield, `g` to SUMO: which of them may, if any."""
+    """Two links whose paths cross, and which of them may yield (`g` to SUMO) when both have a green, if any."""
 
     a: Link
     b: Link
@@ -70,8 +70,8 @@ class Crossing(NamedTuple):
 
 
 class Watch:
-    """The look for two links whose paths cross and that both have way, by what SUMO has in force. A link may yield to
-    another only where SUMO lets it give way there, and where it has a phase under which it yields that may be on along
+    """The look for two links whose paths cross and that both have a green, by what SUMO has in force. A link may yield
+    to another only if SUMO lets it give way there, and if it has a phase under which it yields that may be on along
     with one of the other's (`may_yield`). Yellow yields as the green before it did."""
 
     def __init__(self, network: Network, signals: Iterable[str], may_yield: MayYield, sumo: Any) -> None:
@@ -87,7 +87,7 @@ class Watch:
         self.states: list[str] = []
         """What all signals had in force at the last look."""
         self.judged: dict[str, str] = {}
-        """What each signal has in force, with `Y` for the yellow behind a green with way."""
+        """What each signal has in force, with `Y` for the yellow after a green with the right of way."""
         self.history: dict[str, list[tuple[float, str]]] = {name: [] for name in self.crossing}
 
     def look(self, second: float) -> None:
@@ -106,7 +106,7 @@ class Watch:
                     self.judge(name, judged, second)
 
     def judge(self, name: str, state: str, second: float) -> None:
-        """Raises a conflict where a state has one."""
+        """Raises Fault if a state has a conflict."""
         for a, b, a_yields, b_yields in self.crossing[name]:
             one, other = state[a.index], state[b.index]
             if one in RED or other in RED or one in YIELDING and a_yields or other in YIELDING and b_yields:
@@ -119,7 +119,7 @@ class Watch:
 
 
 def behind(before: str, state: str) -> str:
-    """Returns a state with `Y` for each yellow behind a green with way."""
+    """Returns a state with `Y` for each yellow after a green with the right of way."""
     return "".join("Y" if now == "y" and was in "GY" else now for was, now in zip(before, state))
 
 
@@ -148,7 +148,7 @@ class Signals:
         return changed
 
     def show(self, sumo: Any, lines: list[bytes], tick: int) -> None:
-        """Sets the signals to what the cabinets show at a tick, behind the answer to it."""
+        """Sets the signals to what the cabinets show at a tick, after the answer to it."""
         changed = self.take(lines)
         due = [(cabinet, light) for cabinet in changed for light in self.lights[cabinet]]
         due += [it for it in self.always if it[0] not in changed]

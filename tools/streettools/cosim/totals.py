@@ -1,4 +1,4 @@
-"""What trips come to, and how two plans differ over the same seeds: means with intervals of 95 %, after Student."""
+"""Totals of trips, and how two plans differ over the same seeds: means with intervals of 95 %, after Student."""
 
 import math
 import statistics
@@ -26,7 +26,7 @@ class Total(NamedTuple):
 
 
 class Mean(NamedTuple):
-    """A mean, and half of its interval of 95 %, None where there is one value alone."""
+    """A mean, and half of its interval of 95 %, None if there is only one value."""
 
     value: float
     half: float | None
@@ -36,7 +36,7 @@ class Mean(NamedTuple):
 
 
 def point(freedom: int) -> float:
-    """Returns the two-sided point of 95 % of Student's distribution: by the table, and behind it by a series in one
+    """Returns the two-sided point of 95 % of Student's distribution: by the table, and beyond it by a series in one
     over the degrees of freedom, which is right to 0.001 there."""
     if freedom <= len(TWO_SIDED_95):
         return TWO_SIDED_95[freedom - 1]
@@ -54,7 +54,7 @@ def mean_of(values: list[float]) -> Mean:
 
 
 def total_of(trips: Iterable[Trip]) -> Total | None:
-    """Returns what some trips come to, None where there are none."""
+    """Returns the total of some trips, None if there are none."""
     rows = [(it.delay, it.stops) for it in trips]
     if not rows:
         return None
@@ -67,7 +67,7 @@ def counted(trips: Iterable[Trip], warm: float, seconds: float) -> list[Trip]:
 
 
 def totals_of(trips: list[Trip], routes: Iterable[str]) -> dict[str, Total]:
-    """Returns what trips come to: of all vehicles, of named routes, of buses, of persons; groups without trips are
+    """Returns the totals of trips: of all vehicles, of named routes, of buses, of persons; groups without trips are
     left out."""
     groups = {ALL: [it for it in trips if it.kind is not Kind.PERSON]}
     groups |= {name: [it for it in trips if it.route == name] for name in routes}

@@ -10,7 +10,7 @@ SAME, LESS, MORE, UNKNOWN = "no real difference", "less", "more", "unknown"
 
 def verdict(more: Mean | None) -> str | None:
     """Returns whether there is less or more under a plan: a difference is real if its interval of 95 % doesn't have 0
-    in it. None for the plan with which the others are compared; one seed alone can't tell."""
+    in it. None for the plan with which the others are compared; unknown if there is only one seed."""
     if more is None:
         return None
     if more.half is None:

@@ -1,9 +1,9 @@
 """The same street under SUMO's own controllers: NEMA in two rings and actuated stages with the times of a scenario, or
 the static programs of the network.
 
-NEMA has the pattern in command as the cabinets open; where that is none it runs free. Neither has walk times,
-preempts or priority: a crossing has way with its phase. Under NEMA it has way as one that yields (SUMO's g), since SUMO
-1.15 dies of a NEMA phase in which a crossing has G; vehicles that yield let persons go first all the same.
+NEMA runs the pattern in command as the cabinets open; without one it runs free. Neither has walk times, preempts or
+priority: a crossing has green with its phase. Under NEMA its green is one that yields (SUMO's g), since SUMO 1.15
+crashes on a NEMA phase in which a crossing has G; vehicles that yield let persons go first all the same.
 """
 
 import itertools
@@ -138,14 +138,14 @@ def programs(given: Given, controller: str) -> xml.ElementTree:
 
 
 def anything(one: Link, other: Link) -> bool:
-    """Lets a link yield: what a network's own program has is its own word."""
+    """Lets any link yield: the network's own program is taken as it is."""
     return True
 
 
 def run(
     given: Given, controller: str, out: pathlib.Path, progress: Callable[[int], object]
 ) -> tuple[list[Trip], Times]:
-    """Runs SUMO under its own controller, and returns the trips. The watch over crossing paths looks, too."""
+    """Runs SUMO under its own controller, and returns the trips. The watch over crossing paths runs here as well."""
     sumo = drive.module()
     added: list[pathlib.Path] = []
     may_yield: MayYield = anything

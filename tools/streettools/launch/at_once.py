@@ -1,10 +1,10 @@
-"""Proves all that the program stands on, and the program, by one call of the kit's own command for all crates, `rt ci`,
-in a copy of their sources.
+"""Proves the program and all that it depends on by one call of the kit's own command for all crates, `rt ci`, in a copy
+of their sources.
 
-The kit proves several crates side by side, those with the longest chain above them first, and gives a crate the
-processors that no other waits for. A check there reads what the libraries below state, and not their proofs, and
-leaves nothing for a check after an edit. Beside itself the kit keeps each crate that passed, so that a call that was
-interrupted goes on where it was, and what a gate has proved on this machine isn't proved again.
+The kit proves several crates side by side, those with the longest chain of dependents first, and gives a crate the
+processors that no other crate waits for. A check there reads what the libraries below state, and not their proofs, and
+keeps nothing for a check after an edit. The kit keeps each crate that passed in its own folder, so that an interrupted
+call continues where it was, and what a gate has proved on this machine isn't proved again.
 """
 
 import os
@@ -71,7 +71,7 @@ def copied(top: pathlib.Path, to: pathlib.Path, before: dict[str, str]) -> None:
 
 
 def lines_of(said: IO[bytes]) -> Iterator[bytes]:
-    """Yields each line as it is said, and nothing in it where a second passes without one."""
+    """Yields each line as it is written, and an empty one after each second without one."""
     held = b""
     while True:
         if not select.select([said], [], [], 1)[0]:
@@ -87,7 +87,7 @@ def lines_of(said: IO[bytes]) -> Iterator[bytes]:
 
 
 def followed(said: IO[bytes], log: BinaryIO, proof_progress: ProofProgress) -> str | None:
-    """Tells of the crates as the kit says that they are done, and returns the first whose proof failed, if one did."""
+    """Reports each crate when the kit says that it is done, and returns the first whose proof failed, if one did."""
     failed, before = None, []
     for line in lines_of(said):
         log.write(line)
@@ -108,7 +108,7 @@ def followed(said: IO[bytes], log: BinaryIO, proof_progress: ProofProgress) -> s
 
 
 def prove_all(rt: str, top: pathlib.Path, log: BinaryIO, proof_progress: ProofProgress, before: dict[str, str]) -> None:
-    """Proves sources with these checksums, and builds the program; NotProved where a crate fails. However it ends, the
+    """Proves sources with these checksums, and builds the program; NotProved if a crate fails. However it ends, the
     copy is gone."""
     out = top / "crates" / crates.PROGRAM / "out"
     copy = out / "lanes"

@@ -1,4 +1,4 @@
-"""The crates of a checkout, as crates.txt lists them: which of them the program stands on, and the files that a proof
+"""The crates of a checkout, as crates.txt lists them: which of them the program depends on, and the files that a proof
 of these reads."""
 
 import hashlib
@@ -17,7 +17,7 @@ PARTS = ("src", "specs", "proofs", "c")
 
 
 def uses(top: pathlib.Path) -> dict[str, list[str]]:
-    """Returns for each crate of the checkout the crates of the checkout that it stands on directly, in the list's
+    """Returns for each crate of the checkout the crates of the checkout on which it depends directly, in the list's
     order."""
     found = dict(re.findall(r"^([a-z]\w*)(?: staticlib)?:(.*)$", (top / LISTS[0]).read_text(), re.M))
     return {name: [it for it in below.split() if it in found] for name, below in found.items()}
@@ -30,7 +30,7 @@ def listed(top: pathlib.Path, names: list[str]) -> str:
 
 
 def parts_of(name: str, known: dict[str, list[str]]) -> list[str]:
-    """Returns a crate and all that it stands on, each behind those that it stands on itself."""
+    """Returns a crate and all that it depends on, each after its own dependencies."""
     order: dict[str, None] = {}
 
     def visit(crate: str) -> None:
@@ -44,7 +44,7 @@ def parts_of(name: str, known: dict[str, list[str]]) -> list[str]:
 
 
 def parts(top: pathlib.Path) -> list[str]:
-    """Returns the crates that the program stands on, and the program's own as the last."""
+    """Returns the crates on which the program depends, and the program's own as the last."""
     return parts_of(PROGRAM, uses(top))
 
 
@@ -64,8 +64,7 @@ def files(top: pathlib.Path) -> Iterator[str]:
 
 
 def folders(names: list[str]) -> list[str]:
-    """Returns the folders in which these files' own folders stand: what is moved to the place of a folder changes the
-    one above it."""
+    """Returns the folders that contain these files' own folders: they change if a folder in them is replaced."""
     found: set[str] = set()
     for name in names:
         found.update(str(it) for it in list(pathlib.PurePath(name).parents)[1:-1])

@@ -1,9 +1,9 @@
-"""What stands behind the program's answer where `check` refuses a text: the line that was read, and the line that is
-due in its place.
+"""What is printed after the program's answer if `check` refuses a text: the line that was read, and the line that was
+expected.
 
-It is not proved. Where the text is, up to its fault, what `run` writes for its scenario, the line due comes from such
-a run of the program. Else its journals have another order, and the line due comes from the model (model/README.md),
-which takes the journals of the text.
+It is not proved. If the text, up to its fault, is what `run` writes for its scenario, the expected line comes from such
+a run of the program. Otherwise its journals have a different order, and the expected line comes from the model
+(model/README.md), which takes the journals of the text.
 """
 
 import os
@@ -31,12 +31,12 @@ ENDED = "read      nothing: the text ends"
 
 
 class Untold(Exception):
-    """The line that is due can't be told, in words."""
+    """The expected line can't be found; the words say why."""
 
 
 def by_program(program: str, scenario: bytes, before: bytes) -> bytes | None:
-    """Returns the line that a run of the program writes behind a beginning of a trace, with its newline; the empty
-    line where nothing follows, None where the run writes another beginning."""
+    """Returns the line that a run of the program writes after a beginning of a trace, with its newline; the empty line
+    if nothing follows, None if the run writes another beginning."""
     with tempfile.TemporaryFile() as given:
         given.write(scenario)
         given.seek(0)
@@ -54,8 +54,8 @@ def model_parts() -> tuple:
 
 
 def by_model(scenario: bytes, read: list[bytes]) -> bytes:
-    """Returns the line that is due behind a scenario and the lines read, without its newline; the empty line where
-    nothing follows. Of a journal that is due it is the serial one."""
+    """Returns the line that is expected after a scenario and the lines read, without its newline; the empty line if
+    nothing follows. If a journal is expected, it is the serial one."""
     lines, run, scenario_read = model_parts()
     due = run.Run(scenario_read.content(scenario_read.read_value(scenario))).lines()
     end = time.monotonic() + SECONDS
@@ -72,7 +72,7 @@ def by_model(scenario: bytes, read: list[bytes]) -> bytes:
 
 
 def line_due(program: str, before: bytes) -> bytes:
-    """Returns the line that is due behind a beginning of a trace; the empty line where nothing follows."""
+    """Returns the line that is expected after a beginning of a trace; the empty line if nothing follows."""
     first, _, others = before.partition(b"\n")
     scenario = first.removeprefix(b"S ")
     due = by_program(program, scenario, before) if program else None
@@ -82,7 +82,7 @@ def line_due(program: str, before: bytes) -> bytes:
 
 
 def at_opening(program: str, read: bytes) -> list[str]:
-    """Returns what is said of a first line that has no scenario."""
+    """Returns what is printed for a first line that has no scenario."""
     due = b"S and a scenario in its compact text"
     if read.startswith(b"S ") and program:
         answer = ran(program, "run", given=read[2:])
@@ -93,7 +93,8 @@ def at_opening(program: str, read: bytes) -> list[str]:
 
 
 def shown(read: bytes, due: bytes) -> list[str]:
-    """Returns a line for what was read and one for what is due; of long ones the part around the first difference."""
+    """Returns a line for what was read and one for what is expected; of long ones the part around the first
+    difference."""
     length = len(os.path.commonprefix((read, due)))
     start = max(0, length - WIDEST // 2) if max(len(read), len(due)) > WIDEST else 0
     pieces = []
@@ -105,7 +106,7 @@ def shown(read: bytes, due: bytes) -> list[str]:
 
 
 def behind(program: str, text: bytes, number: int) -> list[str]:
-    """Returns what is said of a later line of a text."""
+    """Returns what is printed for a later line of a text."""
     lines = text.split(b"\n", number)
     before, read = b"".join(line + b"\n" for line in lines[: number - 1]), lines[number - 1]
     try:
@@ -123,8 +124,8 @@ def behind(program: str, text: bytes, number: int) -> list[str]:
 
 
 def told(program: str, text: bytes, said: str) -> list[str]:
-    """Returns what is said behind the program's line; nothing where that names no line of the text. An empty path
-    stands for no program."""
+    """Returns what is printed after the program's line; nothing if it names no line of the text. An empty path means
+    that there isn't a program."""
     found = FAULT.fullmatch(said.strip())
     if not found or int(found[2]) == TOO_LONG:
         return []
@@ -135,14 +136,14 @@ def told(program: str, text: bytes, said: str) -> list[str]:
 
 
 def tell(program: str, text: bytes, said: str) -> None:
-    """Tells on standard error what is said behind the program's line."""
+    """Prints to standard error what follows the program's line."""
     for line in told(program, text, said):
         say("arterial", line)
 
 
 def main(given: list[str]) -> int:
-    """Tells what is said behind the program's line; the words are the program's path and that line, and the text is a
-    file on standard input."""
+    """Prints what follows the program's line; the words are the program's path and that line, and the text is a file on
+    standard input."""
     program, said = given
     sys.stdin.buffer.seek(0)
     tell(program, sys.stdin.buffer.read(), said)

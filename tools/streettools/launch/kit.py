@@ -5,12 +5,12 @@ import shutil
 
 
 def command() -> str | None:
-    """Returns the path of the command rt, None where there is none."""
+    """Returns the path of the command rt, None if there is none."""
     return shutil.which("rt")
 
 
 def folder() -> pathlib.Path | None:
-    """Returns the kit's folder, None where there is no kit."""
+    """Returns the kit's folder, None if the kit isn't found."""
     found = command()
     return pathlib.Path(found).resolve().parent.parent if found else None
 
@@ -25,6 +25,6 @@ def scripts() -> list[pathlib.Path]:
 
 
 def identity(folder: pathlib.Path) -> str:
-    """Returns the kit's own account of what it was made of, with checksums; nothing where it has none."""
+    """Returns the kit's own account of what it was made of, with checksums; nothing if it has none."""
     what = folder / "WHAT"
     return what.read_text() if what.is_file() else ""

@@ -1,10 +1,10 @@
-"""Proves the libraries that the program stands on, several side by side: first those with the longest chain of others
-above them.
+"""Proves the libraries on which the program depends, several side by side: first those with the longest chain of
+dependents.
 
-The kit's own command for all crates (at_once.py) leaves nothing for a check after an edit, and needs a place beside the
-kit. Where a checkout is to keep what the proofs leave, or there is no such place, each crate is proved here by a call
-of its own, in a copy of the sources that it needs, with the libraries below it linked into it, and with the processors
-that no other crate needs. What it makes is linked back into the checkout.
+The kit's own command for all crates (at_once.py) keeps nothing for a check after an edit, and needs to write next to
+the kit. If a checkout is to keep what the proofs make, or the kit's folder isn't writable, each crate is proved here by
+a call of its own, in a copy of the sources that it needs, with the libraries below it linked into it, and with the
+processors that no other crate needs. What it makes is linked back into the checkout.
 """
 
 import contextlib
@@ -23,7 +23,7 @@ from . import crates, kit, shares
 from .proof_progress import ProofProgress
 
 RLIB, KEPT = pathlib.Path("out/rlib"), pathlib.Path("out/incremental")
-"""What the check of a library leaves: what others stand on, and what speeds the next check."""
+"""What the check of a library makes: what its dependents need, and what speeds the next check."""
 
 KEY = pathlib.Path("out/proved-of")
 """A sum of all that the library was made of."""
@@ -76,7 +76,8 @@ def chains(above: dict[str, list[str]], seconds: dict[str, float]) -> dict[str, 
 
 
 def keys(top: pathlib.Path, known: dict[str, list[str]], names: list[str]) -> dict[str, str]:
-    """Returns for each crate, those below it before it, a sum of its sources, of what it stands on, and of the kit."""
+    """Returns for each crate, in the order of dependencies, a sum of its sources, of what it depends on, and of the
+    kit."""
     folder = kit.folder()
     found: dict[str, str] = {}
     for name in names:
@@ -96,13 +97,13 @@ def need(top: pathlib.Path, name: str, below: list[str]) -> float:
 
 
 def with_jobs(memory: float, jobs: int) -> float:
-    """Returns the bytes that a check takes with so many jobs."""
+    """Returns the bytes that a check takes with a number of jobs."""
     return memory * (1 + 0.6 * (jobs - 1))
 
 
 def jobs_for(machine: Machine, running: list[Running], waiting: int, memory: float) -> int:
-    """Returns how many jobs the next of the crates that wait gets, 0 where it has to wait. The first runs however
-    little memory there is."""
+    """Returns how many jobs the next of the waiting crates gets, 0 if it has to wait. The first runs even if memory is
+    short."""
     room = machine.memory - sum(it.memory for it in running)
     if len(running) >= machine.processors or (running and memory > room):
         return 0
@@ -114,7 +115,7 @@ def jobs_for(machine: Machine, running: list[Running], waiting: int, memory: flo
 
 
 def linked(source: pathlib.Path, to: pathlib.Path) -> None:
-    """Puts a folder to another place by links to its files, in the place of what stood there."""
+    """Puts a folder to another place by links to its files, and replaces what is there."""
     fresh = to.with_name(f".{to.name}.new")
     shutil.rmtree(fresh, ignore_errors=True)
     shutil.copytree(source, fresh, copy_function=os.link)
@@ -147,8 +148,8 @@ class Lanes:
         self.lanes = top / "crates" / crates.PROGRAM / "out/lanes"
 
     def run(self) -> None:
-        """Proves all; NotProved where one fails, once those beside it have ended. However it ends, what was kept
-        stands in the checkout."""
+        """Proves all. Raises NotProved if one fails, once those that run at the same time have ended. However it ends,
+        the checkout has what was kept."""
         shutil.rmtree(self.lanes, ignore_errors=True)
         self.take_proved()
         failed = None
@@ -177,8 +178,8 @@ class Lanes:
         self.proof_progress.taken(sorted(self.ended))
 
     def is_proved(self, name: str) -> bool:
-        """Tells whether the library is there that a call has left for the same sources. The kit tests this again as
-        it builds the program."""
+        """Tells whether a call has left the library for the same sources. The kit tests this again as it builds the
+        program."""
         key = self.top / "crates" / name / KEY
         return key.is_file() and key.read_text() == self.keys[name] and (self.top / "crates" / name / RLIB).is_dir()
 
@@ -250,5 +251,5 @@ class Lanes:
 
 
 def prove_all(rt: str, top: pathlib.Path, log: BinaryIO, proof_progress: ProofProgress, keep: bool) -> None:
-    """Proves all libraries that the program stands on; NotProved where one fails."""
+    """Proves all libraries on which the program depends; raises NotProved if one fails."""
     Lanes(top, rt, log, proof_progress, keep).run()

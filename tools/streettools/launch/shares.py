@@ -6,7 +6,7 @@ import pathlib
 from . import crates
 
 SECONDS = {"station": 220, "arterial": 130}
-"""Processor seconds of a crate's first check with one job, as measured."""
+"""CPU seconds of a crate's first check with one job, as measured."""
 
 START, EACH_RUST, EACH_PROOF = 10, 0.055, 0.018
 """Where nothing was measured: seconds of a check before its first function, and for a line of a program and one of
@@ -14,7 +14,7 @@ specifications or proofs."""
 
 
 def of(names: list[str], top: pathlib.Path) -> dict[str, float]:
-    """Returns the processor seconds that the check of each crate is likely to take."""
+    """Returns the CPU seconds that the check of each crate is likely to take."""
     return {name: SECONDS.get(name) or guessed(top / "crates" / name) for name in names}
 
 

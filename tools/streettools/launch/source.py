@@ -5,8 +5,7 @@ import re
 
 
 def text(top: pathlib.Path, file: str, name: str) -> str | None:
-    """Returns the constant text of this name in a source file, None where it does not stand there in a form that is
-    known."""
+    """Returns the constant text of this name in a source file, None if it isn't there in a known form."""
     try:
         source = (top / "crates" / file).read_text()
     except OSError:
@@ -31,6 +30,6 @@ def version(top: pathlib.Path) -> str | None:
 
 
 def usage(top: pathlib.Path) -> str | None:
-    """Returns the line for words that are no command, without its end."""
+    """Returns the line for words that aren't a command, without its end."""
     line = text(top, "arterial/src/reporting.rt", "USAGE")
     return line and line.removesuffix("\n")

@@ -1,10 +1,10 @@
 """`./arterial take`: puts a proof that was made elsewhere into a checkout of the same sources.
 
-The file is what tools/release makes: a gzipped tar archive with the program, the checksums of it and of every source
-of its proof, the kit's lines about the proof, and a line about the maker. It is read strictly: these names, regular
-files, bounded sizes. A proof of other sources is refused with the first file that differs. Whether the maker told the
-truth can't be seen from the file: until `./arterial prove` has confirmed it here, each call says "proved by its maker,
-not here". A checksum that came by another way (--sum) at least ties the file to its maker.
+The file is what tools/release makes: a gzipped tar archive with the program, the checksums of it and of every source of
+its proof, the kit's lines about the proof, and a line about the maker. It is read strictly: these names, regular files,
+bounded sizes. A proof of other sources is refused with the first file that differs. The file can't show whether the
+maker told the truth: until `./arterial prove` has confirmed it here, each call says "proved by its maker, not here". A
+checksum that came by another way (--sum) at least ties the file to its maker.
 """
 
 import argparse
@@ -85,7 +85,7 @@ def sums_of(file: pathlib.Path, text: bytes) -> dict[str, str]:
 
 
 def take(top: pathlib.Path, file: pathlib.Path, wanted: str | None) -> str:
-    """Puts the proof into the checkout and returns what its maker says; Refused if it can't be taken over."""
+    """Puts the proof into the checkout and returns what its maker says; raises Refused if it isn't accepted."""
     members = contents(file, wanted)
     sums, begun, now = sums_of(file, members["sums"]), time.time(), crates.sums(top)
     program = record.program_of(top)

@@ -34,18 +34,18 @@ USUAL = 60
 
 ENDED = re.compile(rb"^run=ended status=(\d+) .*proved=no$", re.M)
 OWN = re.compile(rb"^(?:interpreter|checked|races|run=)", re.M)
-"""Where the kit's own lines begin, behind those of the program."""
+"""Where the kit's own lines begin, after those of the program."""
 
 WAY = "./arterial prove (or ./test) proves the program here, which has no such limit"
 LIMITS = (
     (rb"wrote more than \d+ bytes", f"the answer is longer than 1 MiB, which an unproved run can't give. {WAY}"),
     (rb"did not end within the time limit", f"the answer takes longer than {SECONDS} seconds unproved. {WAY}"),
 )
-"""What the kit says where a limit ended the run, and what is said of it here."""
+"""What the kit prints if a limit ended the run, and what is printed here instead."""
 
 
 class Unfinished(Exception):
-    """The run came to no answer, in words, with its exit status."""
+    """The run gave no answer; the words say why, with its exit status."""
 
     def __init__(self, why: str, status: Status = Status.UNFINISHED) -> None:
         super().__init__(why)
@@ -82,7 +82,7 @@ def ran(rt: str, arguments: list[str], stdin: IO[bytes], stdout: IO[bytes]) -> t
 
 
 def why_not(said: bytes) -> tuple[str, Status]:
-    """Returns why a run came to no answer, by what the kit said, and the exit status."""
+    """Returns why a run gave no answer, by what the kit said, and the exit status."""
     for limit, words_of_it in LIMITS:
         if re.search(limit, said):
             return words_of_it, Status.UNFINISHED
@@ -118,8 +118,7 @@ def answer(rt: str, arguments: list[str]) -> int:
 
 
 def written(output: bytes, status: int) -> int:
-    """Writes the program's output, and returns the exit status, which is that of a write fault where it can't be
-    written."""
+    """Writes the program's output, and returns the exit status: that of a write fault if it can't be written."""
     try:
         sys.stdout.buffer.write(output)
         sys.stdout.flush()
@@ -132,7 +131,7 @@ def written(output: bytes, status: int) -> int:
 
 
 def known(arguments: list[str]) -> int | None:
-    """Gives an answer that can be read from the source, and returns its status; None where a run is needed."""
+    """Gives an answer that can be read from the source, and returns its status; None if a run is needed."""
     if arguments == ["--version"] and (text := source.version(crates.TOP)):
         say("arterial", help.FROM_SOURCE)
         sys.stdout.write(text)
@@ -145,7 +144,7 @@ def known(arguments: list[str]) -> int | None:
 
 
 def main(given: list[str]) -> int:
-    """Answers the words behind the first, which says why there is no proved program."""
+    """Answers the words after the first, which says why a proved program isn't there."""
     why, *arguments = given
     status = known(arguments)
     if status is not None:

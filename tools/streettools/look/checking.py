@@ -9,7 +9,7 @@ from ..shared.fault import Fault
 from ..shared.saying import say
 
 NO_TRACE = 5
-"""The program's exit status if a text is no trace."""
+"""The program's exit status if a text isn't a trace."""
 TOO_LONG = "trace: line 0 breaks rule 1"
 
 
@@ -43,7 +43,7 @@ class Check:
             os.close(text)
 
     def told(self) -> None:
-        """Waits for the end, and reports what was found; a text that is no trace is refused. A second call does
+        """Waits for the end, and reports the result; raises Fault if a text isn't a trace. A second call does
         nothing."""
         if self.running is None:
             return
@@ -57,7 +57,7 @@ class Check:
             say("look", f"not checked: {line or f'the program ended with status {status}'}")
 
     def end(self) -> None:
-        """Ends it, if nobody has waited for it."""
+        """Ends the check, if its end wasn't waited for."""
         if self.running is not None:
             self.running.end()
             self.running = None

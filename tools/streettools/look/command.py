@@ -8,7 +8,7 @@ from .reading import read
 from .words import parser
 
 MOST = 36_000
-"""A picture over time has at most an hour, in ticks: more can't be told apart on a page."""
+"""A picture over time has at most an hour, in ticks: more isn't readable on a page."""
 
 
 def cabinet_of(reader, number):
@@ -115,7 +115,7 @@ def events(words, reader, names):
 DOES = {it.__name__: it for it in (rings, coordination, offset, page, report, events)}
 
 TRAFFIC = ("paths", "purdue", "splits", "queues")
-"""Pictures of a run with traffic, which are drawn from its folder (docs/QUEUES.md)."""
+"""Pictures of a run with traffic, whose input is its folder (docs/QUEUES.md)."""
 
 
 def main(arguments):

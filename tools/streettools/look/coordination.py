@@ -1,7 +1,7 @@
 """The time-space diagram of a street: the coordinated greens of several cabinets, and the bands through them.
 
-Outbound goes with ring 1's coordinated phases from the first cabinet to the last, inbound with ring 2's back again. The
-bands are those of the greens that were shown; beside them those of a plan can be drawn.
+Outbound traffic has ring 1's coordinated phases from the first cabinet to the last, inbound traffic ring 2's in the
+other direction. The bands are those of the greens that were shown; those of a plan can be drawn in addition.
 """
 
 import textwrap
@@ -25,8 +25,8 @@ COLOURS = {"G": pictures.GREEN, "Y": pictures.YELLOW}
 
 @dataclass
 class View:
-    """What is looked at: the first and the last tick, how many ticks around them bands come from, the phases that are
-    shown instead of the coordinated ones, and what things are called."""
+    """What is shown: the first and the last tick, for how many ticks around them bands are looked for, the phases that
+    are shown instead of the coordinated ones, and what things are called."""
 
     start: int
     end: int
@@ -37,7 +37,7 @@ class View:
 
 class Corner:
     """A cabinet of the street: `spans` has for each way (0 outbound, 1 inbound) and colour the ticks at which it is
-    shown, whole and as far as `margin` ticks around what is looked at, since bands come from there."""
+    shown, whole and as far as `margin` ticks around the shown ones, for the bands that begin there."""
 
     def __init__(self, scenario, number, view):
         self.cabinet, self.names = opened(scenario, number), view.names
@@ -58,7 +58,7 @@ class Corner:
         return (other if one in partners else one, one if other in partners else other)
 
     def take(self, happening):
-        """Takes over a frame or a download."""
+        """Processes a frame or a download."""
         if isinstance(happening, Ended):
             self.cabinet.ended(happening.load)
         if isinstance(happening, Frame):
@@ -67,7 +67,7 @@ class Corner:
                 self.show(way, happening.vehicles[phase - 1], happening.tick)
 
     def follow(self, frame):
-        """Takes over the coordinated phases of the pattern that runs, and how its cycle runs."""
+        """Processes the coordinated phases of the pattern that runs, and its cycle."""
         mode = mode_of(frame.mode)
         plan = self.cabinet.plan(mode.number) if mode.letter in "CK" else None
         if plan and frame.tick <= self.end:
@@ -80,7 +80,7 @@ class Corner:
                 self.used = [self.pair]
 
     def show(self, way, letter, tick):
-        """Ends what a way showed before, where it differs, and begins what is shown now."""
+        """Ends what a way showed before, if it differs, and begins what it shows now."""
         before, since = self.now[way]
         if letter == before:
             return
@@ -93,7 +93,7 @@ class Corner:
         return [(since, end) for since, end in self.spans[way][letter] if since < self.end and end > self.start]
 
     def close(self, last):
-        """Ends at the end of the trace what is shown then."""
+        """Ends, at the end of the trace, what is shown then."""
         for way in (0, 1):
             self.show(way, "R", last)
 
@@ -150,8 +150,8 @@ def draw_corner(axes, corner, height, tall):
 
 
 def draw_bands(axes, found, heights, start, end):
-    """Draws the bands of both ways, with their widths in seconds where they have room: between two cabinets alone one
-    higher than the other."""
+    """Draws the bands of both ways, with their widths in seconds if they have room; with only two cabinets, one width
+    is higher than the other."""
     for (spans, delays), colour, name in zip(found, (OUTBOUND, INBOUND), ("outbound", "inbound")):
         for low, high in spans:
             if low >= end or high + max(delays) <= start:
@@ -170,8 +170,8 @@ def draw_bands(axes, found, heights, start, end):
 
 
 def draw_planned(axes, found, delays, heights, corner):
-    """Draws dashed outlines of a plan's bands, outbound and inbound, cycle by cycle, by the clock of a cabinet. Returns
-    what explains them."""
+    """Draws dashed outlines of a plan's bands, outbound and inbound, cycle by cycle; `corner` has the cabinet whose
+    clock is used. Returns their entries for the legend."""
     keys = []
     for band, colour, name, away in zip(found, (OUTBOUND, INBOUND), ("outbound", "inbound"), delays):
         look = {"facecolor": "none", "edgecolor": colour, "linewidth": 1.2, "linestyle": (0, (4, 2))}
@@ -192,14 +192,14 @@ def draw_planned(axes, found, delays, heights, corner):
 
 
 def left_out(corners):
-    """Returns the words that tell which partner phases are left out, empty where none is."""
+    """Returns the words that tell which partner phases are left out, empty if none is."""
     told = [(it.cabinet.number, it.names.left_out(it.cabinet.number)) for it in corners if not it.fixed]
     return "; ".join(f"cabinet {number} {words}" for number, words in told if words)
 
 
 def draw(corners, travel, path, plan=None, began=None):
     """Draws the time-space diagram and writes it; `travel` has the ticks from each cabinet to the next, or is None, and
-    `plan` a plan's greatest bands, outbound and inbound."""
+    `plan` a plan's widest bands, outbound and inbound."""
     start, end = corners[0].start, corners[0].end
     tall = 1.5 + 0.85 * len(corners)
     title = f"Coordinated greens, ticks {start} to {end}: above each line outbound (ring 1), below it inbound (ring 2)"

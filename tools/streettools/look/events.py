@@ -1,6 +1,6 @@
 """The field's own event log of a trace: the codes of the Indiana Traffic Signal Hi Resolution Data Logger Enumerations.
 
-docs/EVENTS.md says of each code what of a trace it comes from. Rows are in order of time, of cabinets within a time.
+docs/EVENTS.md says from what part of a trace each code is made. Rows are in order of time, of cabinets within a time.
 """
 
 from datetime import datetime, timedelta
@@ -72,7 +72,7 @@ class Log:
                     self.ordered(order, happening.tick)
 
     def ordered(self, order, tick):
-        """Keeps a priority request that checks in, or out where it is cancelled."""
+        """Keeps a priority request that checks in, or out if it is cancelled."""
         match order:
             case Requested(number, departure):
                 self.departed(number, tick)
@@ -102,7 +102,7 @@ class Log:
         cabinet.shown(frame)
 
     def moded(self, before, mode, tick):
-        """Keeps what a change of the mode tells: flash, the pattern, its state, the stages of a preempt."""
+        """Keeps the events of a change of the mode: flash, the pattern, its state, the stages of a preempt."""
         if (mode.letter == "X") != (before.letter == "X"):
             self.add(tick, FLASH_STATUS_CHANGE, AUTOMATIC_FLASH if mode.letter == "X" else NOT_FLASH)
         running = {"F": FREE_PATTERN, "X": FLASH_PATTERN, "K": mode.number, "C": mode.number}.get(mode.letter)
@@ -121,7 +121,7 @@ class Log:
             self.add(tick, PREEMPT_EXIT, before.number)
 
     def selected(self, pattern, tick):
-        """Keeps cycle, offset and splits of the pattern that is selected, in seconds, where they differ from those
+        """Keeps cycle, offset and splits of the pattern that is selected, in seconds, if they differ from those
         before."""
         tables = self.cabinet.tables
         if not self.cabinet.told:
@@ -135,7 +135,7 @@ class Log:
         self.lengths = lengths
 
     def cycled(self, cycle):
-        """Keeps a local zero, and whether the cycle that begins is in step or corrected, and how."""
+        """Keeps a local zero, and whether the cycle that begins is on offset or corrected, and how."""
         self.add(cycle.tick, CYCLE_STATE_CHANGE, LOCAL_ZERO)
         if cycle.error is None:
             return
@@ -169,7 +169,7 @@ class Log:
             self.add(tick, SIGNALS[shows], phase)
 
     def place(self, side):
-        """Returns the number of a side, named by its least phase, in the order of those least phases."""
+        """Returns the number of a side, named by its lowest phase, in the order of those lowest phases."""
         sides = {self.cabinet.side(phase) for phase in self.cabinet.tables.enabled()}
         return sorted(sides | {side}).index(side) + 1
 

@@ -18,7 +18,7 @@ STEPS = (0.1, 0.2, 0.5, 1, 2, 5, 10, 15, 20, 30, 60, 120, 300, 600, 900, 1800, 3
 
 
 def day_axis(axes, start, end, step, began):
-    """Marks an axis with the time of day, whose tick 0 is so many seconds from midnight."""
+    """Marks an axis with the time of day, whose tick 0 is `began` seconds from midnight."""
     least = math.ceil((start / 10 + began) / step - 1e-9)
     most = math.floor((end / 10 + began) / step + 1e-9)
     marks = [it * step for it in range(least, most + 1)]
@@ -27,8 +27,8 @@ def day_axis(axes, start, end, step, began):
 
 
 def time_axis(axes, start, end, began=None):
-    """Gives an axis the time from one tick to another, in seconds, written as minutes and seconds since the run began;
-    as the time of day where the run began so many seconds from midnight."""
+    """Gives an axis the time from one tick to another, in seconds, written as minutes and seconds since the run began,
+    or as the time of day if `began` says how many seconds from midnight that was."""
     axes.set_xlim(start / 10, end / 10)
     step = next((it for it in STEPS if (end - start) / 10 <= 12 * it), None)
     step = step or STEPS[-1] * -(-(end - start) // (120 * STEPS[-1]))
@@ -66,8 +66,8 @@ def escaped(text):
 
 
 def figure(height, title, rows=1, ratios=None, under="", labels=()):
-    """Returns a figure 11 inches wide with so many axes one above the other. Room is left around them for the title
-    above, for what stands under the title, for what stands below the axes, and for the labels of the rows."""
+    """Returns a figure 11 inches wide with `rows` axes one above the other. Room is left around them for the title
+    above, for the text under the title, for the text below the axes, and for the labels of the rows."""
     plt.rcParams.update(STYLE)
     warnings.filterwarnings("ignore", "Glyph .* missing from current font")
     under = textwrap.wrap(under, 155)

@@ -1,7 +1,7 @@
-"""The greatest bands of a plan, as `arterial band` writes them, and at which ticks of a trace they come.
+"""The widest progression bands of a plan, as `arterial band` writes them, and their ticks in a trace.
 
-A time of the cycle is the cabinets' clock modulo the cycle. Where the clock stands is told by the target of a frame,
-which is the clock less the offset; where offsets refer to the end of green, the window is added.
+A time of the cycle is the cabinets' clock modulo the cycle. The clock follows from the target of a frame, which is the
+clock less the offset; if offsets refer to the end of green, the window is added.
 """
 
 from typing import NamedTuple
@@ -15,14 +15,14 @@ class NoBands(Fault):
 
 
 class Beat(NamedTuple):
-    """How a cycle runs beside the ticks of a trace: its length, and the time of the cycle at tick 0."""
+    """A cycle in terms of the ticks of a trace: its length, and the time of the cycle at tick 0."""
 
     cycle: int
     ahead: int
 
 
 def read(path):
-    """Returns the bands that a file holds, outbound and inbound, each None where there is none."""
+    """Returns the bands that a file holds, outbound and inbound, each None if there is none."""
     with open(path, encoding="ascii", errors="replace") as file:
         found = read_bands(file.read(1000))
     if found is None:

@@ -20,7 +20,7 @@ class Source(io.FileIO):
         self.called = name or "standard input"
 
     def readinto(self, room):
-        """Reads some octets."""
+        """Reads some bytes."""
         try:
             return super().readinto(room)
         except OSError as fault:
@@ -28,7 +28,7 @@ class Source(io.FileIO):
 
 
 def kept(source):
-    """Returns a file with what comes from a source that can't be read twice, as a pipe."""
+    """Returns a file with the content of a source that can't be read twice, as a pipe."""
     import tempfile
 
     file = tempfile.TemporaryFile()
@@ -46,20 +46,20 @@ class Checked(TraceReader):
         super().__init__(stream, advance)
 
     def answered(self):
-        """Waits for the answer of the check, which what is shown as it is read must stand behind."""
+        """Waits for the answer of the check; what is shown while the trace is read must come after it."""
         if self.check:
             self.check.told()
 
     def finish(self):
-        """Makes sure that the trace came to its end, and that the check found it to be one."""
+        """Makes sure that the trace was complete, and that the check accepted it."""
         self.answered()
         if not self.whole:
             raise Fault(f"line {self.line} is not a line of a trace: the trace ends before its Z line")
 
 
 def read(name, is_checked, show):
-    """Opens a trace, and lets it be shown. A terminal shows a bar, after a second. Where the text can't be shown, that
-    it is no trace is told first."""
+    """Opens a trace, and lets it be shown. A terminal shows a bar, after a second. If the text can't be shown, the
+    fault that it isn't a trace is reported first."""
     stream, called = text(name, is_checked)
     check = shown = None
     try:
@@ -89,7 +89,7 @@ def bar_of(stream):
 
 
 def text(name, is_twice):
-    """Opens a text, and returns it with what it is called: one that can be read twice where that is asked for."""
+    """Opens a text, and returns it with its name in messages; one that can be read twice if that is asked for."""
     try:
         source = Source(None if name == "-" else name)
     except OSError as fault:

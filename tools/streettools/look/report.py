@@ -35,7 +35,7 @@ class Service:
         self.pressed = None
 
     def walk_wait(self):
-        """Returns how long pedestrians waited; nothing where none has pressed a button."""
+        """Returns how long pedestrians waited; nothing if none has pressed a button."""
         if not self.waits and self.pressed is None:
             return {}
         mean = round(sum(self.waits) / len(self.waits) / 10, 2) if self.waits else None
@@ -52,7 +52,7 @@ class Service:
         self.endings[ending] += 1
 
     def value(self, phase, name):
-        """Returns the phase's row of the report; `name` is None where there are no names."""
+        """Returns the phase's row of the report; `name` is None if there aren't names."""
         mean = round(self.total / self.ended / 10, 2) if self.ended else None
         greatest = seconds(self.greatest if self.ended else None)
         return {

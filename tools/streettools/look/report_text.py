@@ -13,7 +13,7 @@ NO_TRAFFIC = (
 
 
 def table(rows):
-    """Returns rows of a table as text, with a blank where there is no value."""
+    """Returns rows of a table as text, with a blank for a missing value."""
     if not rows:
         return ""
     frame = pandas.DataFrame(rows).astype(object)

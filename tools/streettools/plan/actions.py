@@ -26,7 +26,7 @@ BOOK, PICTURES = ".xlsx", (".svg", ".png", ".pdf")
 
 
 def tell(notes: list[str]) -> None:
-    """Tells on standard error what was entered, or couldn't be taken as it stands."""
+    """Prints to standard error what was entered, or couldn't be used as it is."""
     for note in notes:
         say("plan", note)
 
@@ -43,7 +43,7 @@ def write_scenario(path: str | None, value: dict[str, Any]) -> None:
 
 
 def write_sheet(path: str | None, sheet: dict[str, Any]) -> None:
-    """Writes a sheet as TOML, or as a workbook where the file's name says so."""
+    """Writes a sheet as TOML, or as a workbook if the file's name says so."""
     if path and path.endswith(BOOK):
         from . import book  # here, since openpyxl takes a while
 
@@ -96,7 +96,7 @@ def to_sheet(words: argparse.Namespace) -> int:
 
 
 def do_check(words: argparse.Namespace) -> int:
-    """Tells all that is wrong with a file. The status is 2 where the program refuses it."""
+    """Prints all that is wrong with a file. The status is 2 if the program refuses it."""
     source = sources.load(words.file, words.names)
     found = check.findings(source, words.program)
     if words.json:
@@ -111,8 +111,8 @@ def do_check(words: argparse.Namespace) -> int:
 
 
 def do_fix(words: argparse.Namespace, source: Source, street: Street) -> None:
-    """Proposes the least change of splits for each pattern that breaks rule 17, 18 or 19; writes the street with it
-    where an output is named."""
+    """Proposes the least change of splits for each pattern that breaks rule 17, 18 or 19; writes the street with it if
+    an output is named."""
     from . import fix  # here, since numpy takes a while
 
     changes: list[tuple[int, fix.Change]] = []
@@ -170,8 +170,8 @@ def draw(words: argparse.Namespace) -> int:
 
 
 def do_explain(words: argparse.Namespace) -> int:
-    """Tells what a line of the program says; or, of standard input, what each of its lines says. Lines that are none of
-    the program's go on to standard error as they are."""
+    """Prints the meaning of a line of the program, or of each line of standard input. Lines that aren't the program's
+    go to standard error as they are."""
     source = sources.load(words.file, words.names)
     if words.line != "-":
         print("\n".join(explain.explained(source, words.line.strip())))
@@ -190,7 +190,7 @@ def do_explain(words: argparse.Namespace) -> int:
 
 
 def utdf_text_of(path: str) -> str:
-    """Returns the text of a UTDF file; other octets than those of UTF-8, as in names, are replaced."""
+    """Returns the text of a UTDF file; bytes that aren't UTF-8, as in names, are replaced."""
     return jsontext.decoded(content_of(path).removeprefix(b"\xef\xbb\xbf"), replaced=True)
 
 
@@ -286,7 +286,7 @@ def do_loads(words: argparse.Namespace) -> int:
 
 
 def do_sets(words: argparse.Namespace, old: Street, new: Street, found: list[dict[str, Any]]) -> int:
-    """Says what devices get, and sends it if that is asked for."""
+    """Prints what devices get, and sends it if that is asked for."""
     from . import addresses, live, sending  # here, since they take a while
 
     loads_here = sending.loads_of(old, new, found, addresses.places_of(words.sets, len(new.scenario["cabinets"])))

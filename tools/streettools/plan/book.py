@@ -38,7 +38,7 @@ def flat(row: dict[str, Any], front: str = "") -> Iterator[tuple[str, object]]:
 
 
 def shown(name: str, value: Any) -> object:
-    """Returns what stands in a page's cell."""
+    """Returns the value of a page's cell."""
     if name in PHASE_LISTS:
         return " ".join(map(str, value)) or "none"
     if name in WORD_LISTS and isinstance(value, list):

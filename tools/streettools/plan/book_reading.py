@@ -1,4 +1,4 @@
-"""A workbook as a sheet: the pages that `book` writes, also where people have changed them.
+"""A workbook as a sheet: the pages that `book` writes, even if people have changed them.
 
 Pages are read row by row, as far as there are cells: a cell far outside takes no memory for those before it.
 """
@@ -19,10 +19,10 @@ from ..shared.given import Defect, Unreadable
 
 TITLES = {title: name for name, title in BLOCKS.items()}
 MOST_OCTETS = 64 * 2**20
-"""A workbook has at most so many octets when it is unpacked: 64 intersections with all tables have 12 MiB."""
+"""The maximum number of bytes of an unpacked workbook: 64 intersections with all tables have 12 MiB."""
 MOST_PAGES, MOST_ROWS, MOST_COLUMNS = 200, 2**21, 256
-"""Of a workbook so many pages are read, of these together so many rows, and of a row so many cells. A page of a street
-has at most 65 columns; Excel has at most so many rows on a page."""
+"""How many pages of a workbook are read, how many rows of these together, and how many cells of a row. A page of a
+street has at most 65 columns; Excel has at most 2**20 rows on a page."""
 
 
 @dataclass
@@ -43,7 +43,7 @@ def opened(content: bytes) -> openpyxl.Workbook:
 
 
 def pages(content: bytes) -> Iterator[Page]:
-    """Yields the pages of a workbook. Whatever openpyxl says of a file that is damaged comes to one refusal."""
+    """Yields the pages of a workbook. Any fault of openpyxl for a damaged file becomes one refusal."""
     warnings.filterwarnings("ignore", module="openpyxl")
     try:
         book, left = opened(content), MOST_ROWS
@@ -60,7 +60,8 @@ def pages(content: bytes) -> Iterator[Page]:
 
 
 def page_of(sheet, most: int) -> tuple[Page, int]:
-    """Returns a page, and how many rows were read for it, which are so many at most. Rows without cells are dropped."""
+    """Returns a page, and how many rows were read for it (at most one more than `most`). Rows without cells are
+    dropped."""
     sheet.reset_dimensions()
     page, count = Page(sheet.title), 0
     for row in sheet.iter_rows(max_row=most + 1, values_only=True):
@@ -79,7 +80,7 @@ def page_of(sheet, most: int) -> tuple[Page, int]:
 
 
 def read(content: bytes) -> tuple[dict, list[str]]:
-    """Returns the sheet that a workbook is, and what was left out of it, in words."""
+    """Returns the sheet in a workbook, and what was left out of it, in words."""
     sheet: dict[str, Any] = {"intersection": []}
     notes = []
     for page in list(pages(content)):
@@ -108,7 +109,7 @@ def from_json(value: object, name: str) -> object:
 
 
 def read_value(name: str, value: object) -> object:
-    """Returns what a page's cell says."""
+    """Returns the value of a page's cell."""
     last = (name.split() or [""])[0]
     if last == "conflicts" and isinstance(value, str):
         return from_json(value, name)
@@ -151,7 +152,7 @@ def read_intersection(rows: list[list], title: str) -> dict[str, Any]:
 
 
 def read_pair(table: dict[str, Any], name: str, values: list) -> None:
-    """Takes up a name and its value; the lines of rings are a list."""
+    """Reads a name and its value; the lines of rings are a list."""
     if re.fullmatch("ring [12]", name):
         table.setdefault("rings", []).append(str(values[0]) if values else "")
     elif values:
@@ -159,7 +160,7 @@ def read_pair(table: dict[str, Any], name: str, values: list) -> None:
 
 
 def read_row(block: dict[str, Any], kind: str, name: str, numbers: list, values: list) -> None:
-    """Takes up a line of a block: a value for each number."""
+    """Reads a line of a block: a value for each number."""
     for number, value in zip(numbers, values):
         if value is None or number is None:
             continue
@@ -183,7 +184,7 @@ def read_days(name: str, value: object) -> object:
 
 
 def read_street(rows: list[list], sheet: dict[str, Any]) -> None:
-    """Takes up the page of the street."""
+    """Reads the page of the street."""
     block, header = None, False
     day: dict[str, Any] | None = None
     for row in filled(rows):

@@ -1,6 +1,6 @@
 """Rings and barriers as drawn: `rings = ["1 2 | 3 4", "5 6 | 7 8"]`, a line for each ring, a bar for each barrier.
 
-A side with no phase in a ring (`-`) gets a partner there: a phase that the rings need and that nobody calls.
+A side with no phase in a ring (`-`) gets a partner there: a phase that the rings need and that is never called.
 """
 
 from collections.abc import Collection
@@ -88,8 +88,8 @@ def free_number(near: tuple[int, ...], taken: set[int]) -> int:
 
 
 def with_partners(drawing: Drawing) -> tuple[Drawing, dict[int, int]]:
-    """Returns the drawing with partners where a ring has no phase on a side; and for each partner the phase that it is
-    like."""
+    """Returns the drawing with partners where a ring has no phase on a side, and for each partner the phase that it
+    copies."""
     taken = set(drawing.phases())
     partners: dict[int, int] = {}
     sides: list[Side] = []
@@ -107,8 +107,8 @@ def with_partners(drawing: Drawing) -> tuple[Drawing, dict[int, int]]:
 
 
 def apply(tables: Tables, drawing: Drawing) -> None:
-    """Puts rings, lists of concurrent phases, sequence 1 and what is enabled into standard tables. A list of the
-    standard table stays where it says the same. Where the rings aren't those of the standard table its pattern 1 is no
+    """Puts rings, lists of concurrent phases, sequence 1 and the enabled phases into standard tables. A list of the
+    standard table stays if it says the same. If the rings aren't those of the standard table, its pattern 1 is no
     longer defined."""
     drawn = set(drawing.phases())
     for phase in ALL:
@@ -137,7 +137,7 @@ def put_times(tables: Tables, phase: int, like: int) -> None:
 
 
 def of_tables(tables: Tables) -> Drawing | None:
-    """Returns the drawing of tables; None where rings, lists and sequence 1 don't make one."""
+    """Returns the drawing of tables; None if rings, lists and sequence 1 don't make one."""
     enabled = set(tables.enabled())
     rings = [value(tables, ("sequence", 1, ring)) for ring in (1, 2)]
     if not enabled or sorted((*rings[0], *rings[1])) != sorted(enabled):
@@ -159,7 +159,7 @@ def of_tables(tables: Tables) -> Drawing | None:
 
 
 def order_lines(drawing: Drawing | None, rings: list[tuple]) -> list[str]:
-    """Returns the lines of a sequence, with bars where the drawing has barriers and the phases of each side stand
+    """Returns the lines of a sequence, with bars where the drawing has barriers and the phases of each side are
     together."""
     plain = [" ".join(map(str, ring)) for ring in rings]
     if drawing is None:
@@ -179,7 +179,7 @@ def order_lines(drawing: Drawing | None, rings: list[tuple]) -> list[str]:
 
 
 def read_order(given: object) -> list[tuple]:
-    """Returns the phases of both rings of a sequence. Bars are for the reader's eye; numbers that are no phases are
+    """Returns the phases of both rings of a sequence. Bars are for the reader's eye; numbers that aren't phases are
     kept."""
     if not isinstance(given, list) or len(given) != 2 or not all(isinstance(it, str) for it in given):
         raise Wrong('a sequence is two lines, as ["2 1 | 3 4", "6 5 | 7 8"]')

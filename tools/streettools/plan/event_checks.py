@@ -9,7 +9,7 @@ from .reading import Street
 from .sentences import many
 
 SOON = 60
-"""A vehicle that arrives within so many ticks, and that asks at all, was probably meant to arrive in seconds."""
+"""A vehicle that arrives within this number of ticks, and that asks at all, was probably meant to arrive in seconds."""
 
 
 def coordinated(tables: Tables) -> list[int]:
@@ -52,6 +52,6 @@ def in_ticks(street: Street) -> Iterator[Finding]:
 
 
 def all_of(street: Street, tables: list[Tables]) -> Iterator[Finding]:
-    """Yields all that is doubtful in the events of a street."""
+    """Yields the doubts about the events of a street."""
     yield from of_requests(street, tables)
     yield from in_ticks(street)

@@ -18,7 +18,7 @@ class Timed:
         self.names = names
 
     def items(self, events: Given, name: str, found: list[Any]) -> list[Any]:
-        """Returns the items of a list; what can't be taken is kept as a fault with its place, from 1."""
+        """Returns the items of a list; an invalid one is kept as a fault with its place, from 1."""
         made = []
         for place, it in enumerate(found, 1):
             try:

@@ -14,7 +14,7 @@ from ..shared.given import Wrong
 
 
 class Unit(enum.Enum):
-    """What a cell's number counts; its value is how many of it make a second, 0 where it is no time."""
+    """What a cell's number counts; its value is how many of it make a second, 0 if it isn't a time."""
 
     SECONDS = 1
     TENTHS = 10
@@ -60,7 +60,7 @@ def shown(number: float) -> str:
 
 @dataclass(frozen=True)
 class Time:
-    """A number, in seconds where it is a time."""
+    """A number, in seconds if it is a time."""
 
     column: int
     unit: Unit
@@ -90,7 +90,7 @@ class Time:
         return found
 
     def what(self) -> str:
-        """Returns the unit behind a number."""
+        """Returns the unit after a number."""
         return "" if self.unit is Unit.COUNT else " s"
 
     def show(self, value: int) -> int | float:
@@ -151,7 +151,7 @@ def tenths(column: int, of: dict[int, Any]) -> Time:
 
 
 def count(column: int, of: dict[int, Any]) -> Time:
-    """Returns a number that is no time."""
+    """Returns a number that isn't a time."""
     return Time(column, Unit.COUNT, of[column])
 
 
@@ -169,7 +169,7 @@ PHASE_FIELDS: dict[str, Field] = {
     "dynamic_max_limit": seconds(18, PHASE), "dynamic_max_step": tenths(19, PHASE), "ring": count(22, PHASE),
     "concurrent": Phases(23),
 }  # fmt: skip
-"""What a sheet may say of a phase, beside its options."""
+"""What a sheet may say of a phase, in addition to its options."""
 
 UNIT_FIELDS: dict[str, Field] = {
     "correction": Word(1, {1: "other", 2: "dwell", 3: "shortway", 4: "add only"}),
@@ -216,7 +216,7 @@ def words_of(given: object, words: dict[int, str]) -> int:
 
 
 def flag(given: object) -> bool:
-    """Returns what is true or false."""
+    """Reads true or false."""
     if not isinstance(given, bool):
         raise Wrong(f"{given!r} is neither true nor false")
     return given

@@ -12,9 +12,9 @@ class Level(enum.Enum):
     """How much a finding weighs."""
 
     ERROR = "error"
-    """The program refuses it, or a sheet can't be taken."""
+    """The program refuses it, or a sheet isn't accepted."""
     WARNING = "warning"
-    """The program takes it; hardly anybody means it."""
+    """The program accepts it, but it is hardly ever meant."""
     NOTE = "note"
     """Something to know."""
 
@@ -32,8 +32,8 @@ class Rank(enum.Enum):
 
 @dataclass(frozen=True)
 class Finding:
-    """A finding: where, in words; and the rule, the program's line and the place in the file, where there are such. A
-    warning has a rank. `is_cause` says that errors may follow from it, so that it is shown before them."""
+    """A finding: where, in words; and the rule, the program's line and the place in the file, if there are any. A
+    warning has a rank. `is_cause` means that errors may follow from it, so that it is shown before them."""
 
     level: Level
     where: str
@@ -78,7 +78,7 @@ def in_order(findings: list[Finding]) -> list[Finding]:
 
 
 def ranked(findings: list[Finding]) -> str:
-    """Returns how many warnings there are of each rank, in brackets; nothing if there is no warning."""
+    """Returns how many warnings there are of each rank, in brackets; nothing if there aren't any."""
     counts = [(sum(it.rank is rank for it in findings), rank.value) for rank in Rank]
     words = ", ".join(f"{count} {rank}" for count, rank in counts if count)
     return f" ({words})" if words else ""

@@ -70,21 +70,21 @@ class Ring:
         self.at = next((at for at, it in enumerate(phases) if it in laid.coordinated), None)
 
     def cost(self, phase: int, least: int) -> np.ndarray:
-        """Returns what each time of a phase costs."""
+        """Returns the cost of each time of a phase."""
         weight = 0 if phase in self.partners else 1
         costs = weight * np.abs(self.seconds - self.laid.time(phase) // 10).astype(np.int64)
         costs[:least] = NEVER
         return costs
 
     def waited(self, phase: int) -> np.ndarray:
-        """Returns what each time of a phase costs that is neither coordinated nor omitted."""
+        """Returns the cost of each time of a phase that is neither coordinated nor omitted."""
         if self.laid.is_omitted(phase):
             return self.cost(phase, 0)
         return self.cost(phase, ceiling(least_service(self.laid.tables, phase) + self.laid.tables.clearance(phase)))
 
     def behind(self, phases: list[int]) -> list[np.ndarray]:
-        """Returns, for each of some last phases of the side and for none, the least cost of it and those behind it by
-        their length."""
+        """Returns, for each of some last phases of the side and for none, the least cost of it and of those after it,
+        by their length."""
         found = [np.where(self.seconds == 0, 0, NEVER)]
         for phase in reversed(phases):
             costs = added(found[0], self.waited(phase))
@@ -95,7 +95,7 @@ class Ring:
 
     @cached_property
     def tail(self) -> list[np.ndarray]:
-        """The costs of the phases behind the coordinated one, or of all."""
+        """The costs of the phases after the coordinated one, or of all."""
         return self.behind(self.phases if self.at is None else self.phases[self.at + 1 :])
 
     @cached_property
@@ -129,7 +129,7 @@ class Ring:
         return costs
 
     def times_behind(self, phases: list[int], tail: list[np.ndarray], total: int) -> dict[int, int]:
-        """Returns the times of some last phases, which have so many seconds in all."""
+        """Returns the times of some last phases, which total `total` seconds."""
         found = {}
         for phase, costs in zip(phases, tail[1:]):
             found[phase] = chosen(costs, self.waited(phase), total)
@@ -137,7 +137,7 @@ class Ring:
         return found
 
     def times(self, length: int, zero: int, hold: int) -> dict[int, int]:
-        """Returns the times of all phases at the least cost, on a side of so many seconds."""
+        """Returns the times of all phases at the least cost, on a side of `length` seconds."""
         if self.at is None:
             return self.times_behind(self.phases, self.tail, length)
         ends = self.by_end(zero, hold)
@@ -206,7 +206,8 @@ def refuse_shared(laid: Layout) -> None:
 
 
 def least_change(tables: Tables, pattern: int, known: Intersection) -> Change:
-    """Returns the least change of splits with which a pattern keeps rules 17 to 19; NoChange where there is none."""
+    """Returns the least change of splits with which a pattern keeps rules 17 to 19; raises NoChange if there is
+    none."""
     laid = Layout(tables, pattern)
     if not has_pair(tables, pattern):
         raise NoChange(f"pattern {pattern}: say first which phases it coordinates")

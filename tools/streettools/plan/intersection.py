@@ -24,13 +24,13 @@ HOMES = {
     **dict.fromkeys(("speed", "grade", "crossing", "width"), "[intersection.phase]"),
     **dict.fromkeys((*fields.PATTERN_FIELDS, *SPLIT_NAMES), "[intersection.pattern.1], or another pattern"),
 }  # fmt: skip
-"""Where names stand that people write elsewhere."""
+"""The right table for names that people write in a wrong one."""
 
 ABOUT = ("name", "kind", "speed", "grade", "crossing", "width")
 
 
 def read_phase(it: Given, number: int, found: Read) -> None:
-    """Takes up the row of a phase."""
+    """Reads the row of a phase."""
     it.allow((*ABOUT, *fields.PHASE_FIELDS, *fields.OPTIONS))
     for name, each in fields.PHASE_FIELDS.items():
         new = it.read(name, each.read)
@@ -63,7 +63,7 @@ def fill_partners(found: Read) -> None:
 
 
 def read_rows(it: Given, found: Read) -> None:
-    """Takes up all rows of the tables."""
+    """Reads all rows of the tables."""
     for number, row in it.numbered("phase", 16):
         if number in found.partners:
             row.fault("this number is used for the placeholder phase that the rings need: draw it, or leave it out")
@@ -88,7 +88,7 @@ def read_rows(it: Given, found: Read) -> None:
 
 
 def read_sequences(it: Given, found: Read) -> None:
-    """Takes up the orders of the rings. Partners stand at the place of the phases that they face."""
+    """Reads the orders of the rings. Partners are at the place of the phases that they face."""
     below = it.below("sequence")
     below.allow(map(str, range(1, 17)))
     for number in range(1, 17):

@@ -1,5 +1,5 @@
-"""The text of a scenario as JSON (RFC 8259): where it can't be read, with what was expected there; and where a value
-stands."""
+"""The text of a scenario as JSON (RFC 8259): where it can't be read, with what was expected there; and the place of a
+value."""
 
 import json
 import math
@@ -34,7 +34,7 @@ HINTS = (
     (re.compile(r""), re.compile(r"True|False|None"), "JSON has true, false and null"),
     (re.compile(r""), re.compile(r"[A-Za-z_]"), "texts and names are in double quotes"),
 )
-"""What stands before and at a fault, and what that tells."""
+"""The text before a fault and at it, and what that means."""
 
 
 @dataclass(frozen=True)
@@ -49,7 +49,7 @@ class Place:
 
 
 class NoJson(Exception):
-    """A text is no JSON: where, and what was expected there."""
+    """A text isn't valid JSON: where, and what was expected there."""
 
     def __init__(self, place: Place, words: str):
         super().__init__(f"{place}: {words}")
@@ -62,8 +62,8 @@ def place_at(text: str, at: int) -> Place:
 
 
 def decoded(content: bytes, replaced: bool = False) -> str:
-    """Returns the text of some bytes, which must be UTF-8; where octets may be `replaced`, those that are none are read
-    as Latin letters."""
+    """Returns the text of some bytes, which must be UTF-8; if bytes may be `replaced`, invalid ones are read as Latin
+    letters."""
     if replaced:
         try:
             return content.decode()
@@ -80,14 +80,14 @@ def decoded(content: bytes, replaced: bool = False) -> str:
 
 
 def whole(digits: str) -> int | float:
-    """Returns a number without a point; no whole number where 64 bits don't hold it, or where it is -0."""
+    """Returns a number without a point; it isn't a whole number if 64 bits don't hold it, or if it is -0."""
     if digits != "-0" and len(digits) <= 20 and -(2**63) <= int(digits) < 2**64:
         return int(digits)
     return float(digits) if len(digits) < 300 else math.inf
 
 
 def read(content: bytes) -> object:
-    """Returns the value of a text; NoJson where it has none."""
+    """Returns the value of a text; raises NoJson if it has none."""
     text = decoded(content)
     try:
         refuse_depth(text)
@@ -127,7 +127,7 @@ def refuse_constant(text: str, name: str) -> None:
 
 
 def refuse_depth(text: str) -> None:
-    """Refuses lists and objects that stand too deep in each other."""
+    """Refuses lists and objects that are nested too deep."""
     depth = 0
     for found in re.finditer(r'"(?:[^"\\]|\\.)*"|[\[{]|[\]}]', text):
         mark = found[0]
@@ -154,15 +154,15 @@ def steps(path: str) -> list[str | int]:
 
 
 def space(text: str, at: int) -> int:
-    """Returns the place behind white space."""
+    """Returns the place after white space."""
     while at < len(text) and text[at] in " \t\r\n":
         at += 1
     return at
 
 
 def place_of(text: str, path: str) -> Place:
-    """Returns where the value of a path stands in a text that is JSON; where a part of the path isn't there, where the
-    part before it stands."""
+    """Returns where the value of a path is in a text that is JSON; if a part of the path isn't there, where the part
+    before it is."""
     decoder, at = json.JSONDecoder(), space(text, 0)
     for step in [] if path == "." else steps(path):
         below = member(decoder, text, at, step) if isinstance(step, str) else item(decoder, text, at, step)
@@ -173,7 +173,7 @@ def place_of(text: str, path: str) -> Place:
 
 
 def member(decoder: json.JSONDecoder, text: str, at: int, name: str) -> int | None:
-    """Returns where the value of a name stands in the object at a place: the last of that name."""
+    """Returns where the value of a name is in the object at a place: the last of that name."""
     if text[at] != "{":
         return None
     found, at = None, space(text, at + 1)
@@ -187,7 +187,7 @@ def member(decoder: json.JSONDecoder, text: str, at: int, name: str) -> int | No
 
 
 def item(decoder: json.JSONDecoder, text: str, at: int, number: int) -> int | None:
-    """Returns where an item of the list at a place stands."""
+    """Returns where an item of the list at a place is."""
     if text[at] != "[":
         return None
     at = space(text, at + 1)

@@ -1,6 +1,6 @@
-"""The text of a sheet with other splits in it: all else that stands there stays as it was written, comments too.
+"""The text of a sheet with other splits in it: all other text stays as it was written, and so do comments.
 
-TOML Kit does that, Debian's python3-tomlkit."""
+It uses TOML Kit, Debian's python3-tomlkit."""
 
 from collections.abc import MutableMapping
 from typing import Any
@@ -14,8 +14,7 @@ from .reading import Street
 
 def with_splits(text: str, changes: list[tuple[int, Change]], aim: Street) -> str | None:
     """Returns the text of a sheet with the splits of some changes, each with the number of its intersection from 1.
-    None where the text can't say it so that it comes to the street that is aimed at; ModuleNotFoundError without TOML
-    Kit."""
+    None if such a text doesn't make the intended street; ModuleNotFoundError without TOML Kit."""
     import tomlkit
     from tomlkit.exceptions import TOMLKitError
 
@@ -32,8 +31,8 @@ def with_splits(text: str, changes: list[tuple[int, Change]], aim: Street) -> st
 
 
 def put(times: MutableMapping, after: dict[int, int], partners: list[int]) -> bool:
-    """Puts times into the splits of a sheet, in which a name may stand for several phases; returns whether these have
-    one time still. A partner of which nothing is said gets its time by itself."""
+    """Puts times into the splits of a sheet, in which a name may mean several phases; returns whether these still have
+    one time. A partner that the sheet doesn't name gets its time by itself."""
     left = dict(after)
     for key, before in list(times.items()):
         phases = [int(word) for word in key.replace(",", " ").split()]

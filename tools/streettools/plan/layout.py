@@ -13,19 +13,19 @@ NONE, OMITTED = 2, 7
 
 
 def least_green(tables: Tables, phase: int) -> int:
-    """Returns the least green of a phase in ticks."""
+    """Returns the minimum green of a phase in ticks."""
     return max(1, 10 * value(tables, ("phase", phase, 4)))
 
 
 def crossing_time(tables: Tables, phase: int) -> int:
-    """Returns walk and pedestrian clearance together, in ticks; 0 where there is no walk."""
+    """Returns walk and pedestrian clearance together, in ticks; 0 without a walk."""
     walk, clear = (value(tables, ("phase", phase, column)) for column in (2, 3))
     return 10 * (walk + clear) if walk else 0
 
 
 def least_service(tables: Tables, phase: int) -> int:
-    """Returns the least service of a phase in ticks: its least green, or walk and pedestrian clearance where these take
-    longer."""
+    """Returns the minimum service of a phase in ticks: its minimum green, or walk and pedestrian clearance if these
+    take longer."""
     return max(least_green(tables, phase), crossing_time(tables, phase))
 
 
@@ -45,7 +45,7 @@ def sides_by_phase(tables: Tables) -> dict[int, frozenset[int]]:
 
 
 def sides(tables: Tables) -> list[frozenset[int]]:
-    """Returns the sides of the barrier, by their least phase."""
+    """Returns the sides of the barrier, by their lowest phase."""
     return list(dict.fromkeys(sides_by_phase(tables).values()))
 
 
@@ -110,7 +110,7 @@ class Layout:
         return max(self.slots[it][1] for it in self.side(phase) if it in self.slots)
 
     def side_clearance(self, phase: int) -> int:
-        """Returns the greatest clearance of the side of a phase."""
+        """Returns the longest clearance of the side of a phase."""
         return max(self.tables.clearance(it) for it in self.side(phase))
 
     def last_end(self, phase: int) -> int:
@@ -139,12 +139,12 @@ class Layout:
 
     @cached_property
     def window(self) -> int:
-        """How long after local zero both coordinated phases may stay green; below 0 where they can't be green
+        """How long after local zero both coordinated phases may stay green; below 0 if they can't be green
         together."""
         return min(self.last_end(phase) for phase in self.coordinated) - self.zero
 
     def room(self, phase: int) -> int:
-        """Returns how many ticks a phase has beyond its least service; below 0 where it has too few."""
+        """Returns how many ticks a phase has beyond its minimum service; below 0 if it has too few."""
         return self.last_end(phase) - self.slots[phase][0] - least_service(self.tables, phase)
 
     def window_needs(self) -> dict[str, int]:

@@ -34,13 +34,13 @@ SECONDS, TRIES = 3.0, 3
 MOST_SECONDS = 900.0
 """How long a whole walk may take."""
 MOST_OBJECTS = 20_000
-"""So many objects a walk keeps at most: a controller with 255 rows in each table has fewer in these columns."""
+"""How many objects a walk keeps at most: a controller with 255 rows in each table has fewer in these columns."""
 TOO_BIG, NO_SUCH_NAME = 1, 2
 """Error statuses of RFC 1157."""
 
 
 class Agent:
-    """An agent that answers at a port of a host. Datagrams from elsewhere don't come in."""
+    """An agent that answers at a port of a host. Datagrams from elsewhere are ignored."""
 
     def __init__(self, host: str, port: int, community: str):
         self.where, self.community = f"{host}:{port}", community.encode(errors="surrogateescape")
@@ -51,11 +51,11 @@ class Agent:
         """How many datagrams came that were no answers to the questions."""
 
     def next_of(self, asked: list[Name]) -> Reply:
-        """Returns the answer to a GetNext with some names; Unreadable where none comes."""
+        """Returns the answer to a GetNext with some names; raises Unreadable if none comes."""
         return self.ask(GET_NEXT, [(name, None) for name in asked])
 
     def ask(self, kind: int, bindings: list[tuple[Name, int | bytes | None]]) -> Reply:
-        """Returns the answer to a question, or to a Set; Unreadable where none comes."""
+        """Returns the answer to a question, or to a Set; raises Unreadable if none comes."""
         self.number += 1
         octets = message(kind, self.number, bindings, self.community)
         for _ in range(TRIES):
@@ -68,7 +68,7 @@ class Agent:
         raise self.refusal(f"no answer in {TRIES} attempts{more}; check the port and the community")
 
     def answer(self, deadline: float) -> Reply:
-        """Returns the answer to the question that was asked last; TimeoutError where it doesn't come in time."""
+        """Returns the answer to the last question; TimeoutError if it doesn't arrive in time."""
         while True:
             self.socket.settimeout(max(0.001, deadline - time.monotonic()))
             octets = self.socket.recv(65_536)
@@ -88,7 +88,7 @@ class Agent:
 
 
 def address(host: str, anywhere: bool) -> str:
-    """Returns the address of a host, which must be this machine where nothing else is said."""
+    """Returns the address of a host, which by default must be this machine."""
     try:
         found = socket.gethostbyname(host)
     except (OSError, UnicodeError):
@@ -99,8 +99,8 @@ def address(host: str, anywhere: bool) -> str:
 
 
 def walk(agent: Agent, advance: Callable[[int], object] = lambda count: None) -> dict[Name, int | bytes]:
-    """Returns the objects of the tables of plans that an agent has. Where an answer would be too big for it, less is
-    asked at once. `advance` is given how many columns are done."""
+    """Returns the objects of the tables of plans that an agent has. If an answer would be too big for it, less is asked
+    at once. `advance` is called with the number of columns that are done."""
     found: dict[Name, int | bytes] = {}
     reached: dict[Name, Name] = {}
     waiting, at_once, end = list(COLUMNS), AT_ONCE, time.monotonic() + MOST_SECONDS

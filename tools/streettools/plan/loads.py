@@ -37,7 +37,7 @@ def groups(cells: list[Cell]) -> list[list[Cell]]:
 
 def packed(old: Tables, new: Tables, cells: list[Cell], may: set[int]) -> list[list[Cell]] | None:
     """Returns cells as downloads, each of which keeps the rules (or breaks those that it may), of whole groups; None
-    where that can't be."""
+    if that can't be."""
     found: list[list[Cell]] = []
     waiting, now = groups(cells), old
     while waiting:
@@ -58,8 +58,9 @@ def packed(old: Tables, new: Tables, cells: list[Cell], may: set[int]) -> list[l
 
 
 def downloads(old: Tables, new: Tables, flash: bool = False) -> list[list[list]]:
-    """Returns the downloads, as lists of cells, from old to new tables. Where they don't go otherwise, the first takes
-    the patterns out that the last define anew. `flash` says that the cabinet flashes when they come."""
+    """Returns the downloads, as lists of cells, from old to new tables. If no other order keeps the rules, the first
+    removes the old patterns, which the last define again. `flash` means that the cabinet flashes when they arrive.
+    Raises NoWay if the rules refuse the new tables, or if no order of downloads keeps them."""
     may = {FLASH_RULE} if flash else set()
     wrong = [it for it in rules.broken(new, old) if it.rule not in may]
     if wrong:

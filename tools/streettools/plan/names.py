@@ -1,4 +1,4 @@
-"""What people call the things of a scenario, which has numbers alone: a file beside it, `street.names.json`.
+"""What people call the things of a scenario, which has only numbers: a file next to it, `street.names.json`.
 
 It also says which phases were entered only because the rings need a partner. Pictures and reports leave these out.
 """
@@ -21,7 +21,7 @@ UNITS = ("us", "metric")
 
 @dataclass
 class Phase:
-    """A phase: its name, whether it is a crossing alone, and what a check needs to know of the street."""
+    """A phase: its name, whether it is only a crossing, and what a check needs to know of the street."""
 
     name: str = ""
     kind: str = "vehicle"
@@ -33,7 +33,7 @@ class Phase:
 
 @dataclass
 class Intersection:
-    """An intersection: its name and those of its phases, preempts and detectors; the phases that are partners alone."""
+    """An intersection: its name and those of its phases, preempts and detectors; the phases that are only partners."""
 
     name: str = ""
     note: str = ""
@@ -50,7 +50,7 @@ class Intersection:
         return self.phases.get(number, Phase())
 
     def phase_name(self, number: int) -> str:
-        """Returns a phase with its name where it has one."""
+        """Returns a phase with its name if it has one."""
         name = self.phase(number).name
         return f"phase {number} ({name})" if name else f"phase {number}"
 
@@ -70,7 +70,7 @@ class Names:
         return self.intersections[number - 1] if number <= len(self.intersections) else Intersection()
 
     def number(self, text: str, count: int, of: str = "the street") -> int:
-        """Returns the number of one of so many cabinets that a text names: by its number, by the name of its
+        """Returns the number of the cabinet that a text names, from 1 to `count`: by its number, by the name of its
         intersection, or by a part of the name that no other has."""
         if text.isdecimal() and text.isascii():
             if len(text) > 9 or not 1 <= int(text) <= count:
@@ -144,7 +144,7 @@ def is_card(value: object) -> bool:
 
 
 def taken(found: Intersection) -> Intersection:
-    """Returns an intersection whose names are in one line each. What is no name, no measure or no phase is refused."""
+    """Returns an intersection whose names are in one line each. An invalid name, measure or phase is refused."""
     phases = {number: replace(it, name=one_line(it.name)) for number, it in found.phases.items()}
     measures = [found.travel, found.distance, *(value for it in phases.values() for value in lengths(it))]
     if not all(map(is_measure, measures)):
@@ -181,5 +181,5 @@ def read(content: str) -> Names:
 
 
 def beside(path: pathlib.Path) -> pathlib.Path:
-    """Returns where the names of a scenario's file stand: street.json has street.names.json."""
+    """Returns the path of the names of a scenario's file: street.json has street.names.json."""
     return path.with_name(path.name.removesuffix(".json") + ".names.json")

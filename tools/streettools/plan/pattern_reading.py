@@ -1,4 +1,4 @@
-"""Patterns and splits of a sheet: what it says, what is entered where it says nothing, and what partners get."""
+"""Patterns and splits of a sheet: what it says, the defaults for what it omits, and what partners get."""
 
 from collections.abc import Iterator
 
@@ -13,8 +13,8 @@ SPLIT_NAMES = ("splits", "coordinated", "modes")
 
 
 def read_split(it: Given, number: int, found: Read, usual: tuple[int, ...] | None, called: str) -> None:
-    """Takes up times, modes and coordinated phases of a split, and gives partners theirs. `usual` are the phases that
-    are coordinated where nothing is said; the messages have it as `called`."""
+    """Reads times, modes and coordinated phases of a split, and gives partners theirs. `usual` are the phases that
+    are coordinated by default; messages name the split as `called` says."""
     said_times = set()
     parts: tuple[tuple[str, fields.Field, int], ...] = (
         ("splits", fields.SPLIT_TIME, 3), ("modes", fields.SPLIT_MODES, 4),
@@ -57,7 +57,7 @@ def split_doubts(found: Read, number: int, said: set[int], called: str) -> Itera
 
 
 def coordinated(said: object, found: Read) -> tuple[int, ...]:
-    """Returns the coordinated phases; a partner is coordinated beside the phase that it faces."""
+    """Returns the coordinated phases; a partner is coordinated along with the phase that it faces."""
     pair = fields.Phases(5).read(said)
     if any(it not in ALL for it in pair):
         raise Wrong(f"{said!r} has numbers that aren't phases")
@@ -65,8 +65,8 @@ def coordinated(said: object, found: Read) -> tuple[int, ...]:
 
 
 def fill_split_partners(found: Read, number: int, said: set[int], pair: tuple[int, ...] | None) -> None:
-    """Gives each partner that nothing was said of the time of the phases that it faces, and coordinates it beside
-    them."""
+    """Gives each partner that the split doesn't name the time of the phases that it faces, and coordinates it along
+    with them."""
     for partner in found.partners:
         if partner in said:
             continue
@@ -83,16 +83,16 @@ def fill_split_partners(found: Read, number: int, said: set[int], pair: tuple[in
 
 
 def usual_pair(found: Read, number: int) -> tuple[int, ...]:
-    """Returns the phases that a split coordinates where nothing is said: those that it has, or the main street, 2 and
-    6, as far as drawn."""
+    """Returns the phases that a split coordinates by default: those that it has, or the main street, 2 and 6, if they
+    are drawn."""
     drawn = [phase for phase in found.tables.enabled() if phase not in found.partners]
     has = tuple(phase for phase in drawn if value(found.tables, ("split", number, phase, 5)))
     return has or tuple(phase for phase in (2, 6) if phase in drawn)
 
 
 def read_pattern(it: Given, number: int, found: Read, used: dict[int, str]) -> None:
-    """Takes up a pattern, with its splits where they stand with it. A pattern that is named with a cycle has split and
-    sequence of its own number and 1, where nothing else is said."""
+    """Reads a pattern, with its splits if they are given with it. For a pattern with a cycle the split defaults to
+    the pattern's own number and the sequence to 1."""
     it.allow((*fields.PATTERN_FIELDS, *SPLIT_NAMES))
     in_seconds(it)
     said = {name: it.read(name, each.read) for name, each in fields.PATTERN_FIELDS.items()}
@@ -122,7 +122,7 @@ def read_pattern(it: Given, number: int, found: Read, used: dict[int, str]) -> N
 
 
 def in_seconds(it: Given) -> None:
-    """Keeps a fault where an offset is in per cent of the cycle, with its seconds, and drops it."""
+    """Keeps a fault if an offset is in per cent of the cycle, with its seconds, and drops it."""
     said, cycle = it.table.get("offset"), it.table.get("cycle")
     cent = fields.CENT.fullmatch(said) if isinstance(said, str) else None
     if cent and fields.is_number(cycle):

@@ -49,7 +49,7 @@ def split_patterns(tables: Tables) -> list[int]:
 
 
 def rule_17(tables: Tables) -> Iterator[int]:
-    """The times of each ring come to the cycle, and on each side those of both rings to the same."""
+    """The times of each ring add up to the cycle, and on each side the sums of both rings are equal."""
     for number in split_patterns(tables):
         laid = Layout(tables, number)
         rings = [sum(map(laid.time, order)) for order in laid.orders]
@@ -61,7 +61,7 @@ def rule_17(tables: Tables) -> Iterator[int]:
 
 
 def rule_18(tables: Tables) -> Iterator[int]:
-    """A phase that isn't coordinated or omitted has time for its least service, with room for the clearances."""
+    """A phase that isn't coordinated or omitted has time for its minimum service, with room for the clearances."""
     for number in split_patterns(tables):
         laid = Layout(tables, number)
         if any(laid.room(phase) < 0 for phase in laid.waited()):

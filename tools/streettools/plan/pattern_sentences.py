@@ -14,7 +14,7 @@ ASKED = " (the rule asks it in every mode of correction)"
 
 
 def ceiling(ticks: int) -> int:
-    """Returns whole seconds, at least so many ticks."""
+    """Returns ticks as whole seconds, rounded up."""
     return -(-ticks // 10)
 
 
@@ -72,7 +72,7 @@ class PatternSentences(Sentences):
         return f"{head}, but its split mode leaves {self.phase(omitted)} out; a coordinated phase can't be omitted"
 
     def rule_17(self, row: int) -> str:
-        """The times of each ring come to the cycle, and on each side those of both rings to the same."""
+        """The times of each ring add up to the cycle, and on each side the sums of both rings are equal."""
         laid = self.laid(row)
         for ring, order in enumerate(laid.orders, 1):
             total = sum(map(laid.time, order))
@@ -95,7 +95,7 @@ class PatternSentences(Sentences):
         raise AssertionError("the pattern keeps the rule")
 
     def rule_18(self, row: int) -> str:
-        """A phase that isn't coordinated or omitted has time for its least service, with room for the clearances."""
+        """A phase that isn't coordinated or omitted has time for its minimum service, with room for the clearances."""
         laid = self.laid(row)
         return "\n".join(self.short(laid, phase) for phase in laid.waited() if laid.room(phase) < 0)
 

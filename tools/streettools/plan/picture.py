@@ -28,7 +28,7 @@ ROWS = {
 
 @dataclass(frozen=True)
 class Slot:
-    """The slot of a phase: where it stands, in seconds, and in which ring."""
+    """The slot of a phase: when it starts, in seconds, and in which ring."""
 
     phase: int
     ring: int
@@ -37,7 +37,7 @@ class Slot:
 
 
 def slots(tables: Tables, pattern: int) -> list[Slot]:
-    """Returns the slots of a pattern, or of the rings where no pattern is defined: as long as their greatest greens and
+    """Returns the slots of a pattern, or of the rings if no pattern is defined: as long as their maximum greens and
     clearances."""
     if pattern in tables.patterns():
         laid = Layout(tables, pattern)
@@ -68,7 +68,7 @@ def draw_partner(axes, slot: Slot, low: float) -> None:
 
 
 def draw_slot(axes, tables: Tables, slot: Slot, low: float, is_short: bool) -> None:
-    """Draws a slot: green, yellow and red clearance, with a line as long as the least service."""
+    """Draws a slot: green, yellow and red clearance, with a line as long as the minimum service."""
     yellow, red = (value(tables, ("phase", slot.phase, column)) / 10 for column in (8, 9))
     green, least = max(0.0, slot.length - yellow - red), least_service(tables, slot.phase) / 10
     for start, length, colour in ((0, green, LIGHT), (green, yellow, YELLOW), (green + yellow, red, CLEARANCE)):
@@ -99,7 +99,7 @@ def draw_slots(axes, laid: Layout, known: Intersection, drawn: list[Slot], short
 
 
 def draw_barriers(axes, tables: Tables, drawn: list[Slot]) -> None:
-    """Draws a line wherever both rings come to another side."""
+    """Draws a line wherever both rings change to another side."""
     order = drawing.of_tables(tables)
     if order is None:
         return

@@ -24,7 +24,7 @@ LISTS = ("inputs", "loads", "priority", "frames", "faults")
 
 @dataclass
 class Street:
-    """What a sheet comes to: a scenario, the names, what was entered for it, and what only a field file can hold."""
+    """The result of a sheet: a scenario, the names, what was entered for it, and what only a field file can hold."""
 
     scenario: dict[str, Any]
     names: names.Names
@@ -34,7 +34,8 @@ class Street:
     respond: dict[str, Any] | None = None
     doubts: list[Finding] = field(default_factory=list)
     numbers: set[int] | None = None
-    """The places of the schedule's entries whose time is written as a number; None if it comes from no sheet."""
+    """The places of the schedule's entries whose time is written as a number; None if the schedule isn't from a
+    sheet."""
     day_plans: list[days.DayPlan] = field(default_factory=list)
 
     def on(self, plan: days.DayPlan) -> None:
@@ -63,7 +64,7 @@ def read_run(it: Given, drifts: bool) -> dict[str, Any]:
 
 
 def read_master(it: Given, schedule: list[dict] | None) -> dict[str, Any] | None:
-    """Returns the master, None where the sheet says nothing of it."""
+    """Returns the master, None if the sheet says nothing of it."""
     it.allow(("clock", *EVERY, "retries"))
     found: dict[str, Any] = {}
     clock = it.read("clock", readers.day_ticks)
@@ -94,7 +95,7 @@ def read_schedule(top: Given) -> list[dict] | None:
 
 
 def rounds_of(ticks: int) -> Callable[[object], int]:
-    """Returns what reads a time in seconds as a number of rounds."""
+    """Returns a reader of a time in seconds, which gives a number of rounds."""
 
     def read(said: object) -> int:
         found = readers.measure(said) * 10 / ticks
@@ -133,7 +134,7 @@ def read_units(said: object) -> str:
 
 
 def read_names(top: Given) -> names.Names:
-    """Returns the names that stand at the top of a sheet."""
+    """Returns the names at the top of a sheet."""
     sections = top.below("sections")
     sections.allow(map(str, range(1, 9)))
     called = {number: sections.read(str(number), one_line) for number in range(1, 9)}
@@ -174,7 +175,7 @@ def respond_of(top: Given) -> dict[str, Any] | None:
 
 
 def read_events(top: Given, scenario: dict[str, Any], names: list[str]) -> list | None:
-    """Takes up what comes in round by round, which a sheet has as a scenario has it, or with times of day and names of
+    """Reads what arrives round by round, which a sheet has in the form of a scenario, or with times of day and names of
     intersections; returns the pulses of detectors."""
     it = top.below("events")
     it.allow((*LISTS, "pulses"))
@@ -187,7 +188,7 @@ def read_events(top: Given, scenario: dict[str, Any], names: list[str]) -> list 
 
 
 def read_days(top: Given, street: Street, schedule: list[dict] | None) -> None:
-    """Takes up the day plans, of which a scenario has one: the first where no date is said."""
+    """Reads the day plans, of which a scenario has one: the first if no date is given."""
     street.day_plans = days.read(top, read_schedule)
     if street.day_plans and schedule is not None:
         top.fault("day plans have schedules of their own, so this one holds on no day", "schedule")
@@ -198,7 +199,7 @@ def read_days(top: Given, street: Street, schedule: list[dict] | None) -> None:
 
 
 def read_sheet(sheet: dict[str, Any]) -> tuple[Street, list[Defect]]:
-    """Returns what a sheet comes to, and all faults that were found in it."""
+    """Returns the result of a sheet, and all faults that were found in it."""
     top = Given(sheet, faults=[])
     top.allow(TOP, intersection.HOMES)
     found = read_names(top)
@@ -230,7 +231,7 @@ def read_sheet(sheet: dict[str, Any]) -> tuple[Street, list[Defect]]:
 
 
 def street_of(sheet: dict[str, Any]) -> Street:
-    """Returns what a sheet comes to; Unreadable where it has faults."""
+    """Returns what a sheet means; raises Unreadable if it has faults."""
     street, faults = read_sheet(sheet)
     if faults:
         raise Unreadable(faults)

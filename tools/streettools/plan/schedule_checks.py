@@ -31,7 +31,7 @@ def listed(street: Street) -> list[Entry]:
 
 
 def entries_of(street: Street) -> list[Entry]:
-    """Returns the entries in the order of the day; of those of one section and second the last alone, which counts."""
+    """Returns the entries in the order of the day; of those of one section and second only the last, which counts."""
     latest = {(it.section, it.second): it for it in listed(street)}
     return sorted(latest.values())
 
@@ -65,8 +65,9 @@ def called(pattern: int) -> str:
 
 
 def kept(line: list[Entry], at: int, versions: list[Tables], opening: int) -> str:
-    """Returns what a cabinet runs in place of an entry that it refuses: the last one before, round the day, that it
-    takes; else what it opens with. `line` has the entries of its section in the order of the day."""
+    """Returns the pattern that a cabinet runs instead of one that it refuses: the last one before, over midnight if
+    need be, that it accepts; else the one with which it opens. `line` has the entries of its section in the order of
+    the day."""
     for back in range(1, len(line)):
         entry = line[at - back]
         if not all(undefined(it, entry.pattern) for it in versions):
@@ -190,7 +191,7 @@ def of_clocks(street: Street) -> Iterator[Finding]:
 
 
 def all_of(street: Street, tables: list[Tables]) -> Iterator[Finding]:
-    """Yields all that is doubtful in schedule and clocks."""
+    """Yields the doubts about schedule and clocks."""
     yield from of_openings(street, tables)
     yield from refused(street, tables)
     yield from of_sections(street)

@@ -1,7 +1,7 @@
-"""Puts new tables into devices by SNMP: each intersection's own, where its device is.
+"""Puts new tables into devices by SNMP: each intersection's own into its device.
 
-First every device is read. Nothing is set where one of them isn't the intersection's: where it has another name, where
-its tables aren't those of the old plan, or where nothing tells it from the device of another intersection. Then each
+First every device is read. Nothing is set if one of them isn't the intersection's: if it has another name, if its
+tables aren't those of the old plan, or if nothing distinguishes it from the device of another intersection. Then each
 download is sent, and read back.
 """
 
@@ -27,7 +27,7 @@ SYS_NAME: Name = SYSTEM + (5, 0)
 STAGED, REPEATED, VERIFIED, ACCEPTED, REFUSED = 1, 2, 3, 4, 8
 OUTCOMES = {5: "wrong id", 6: "wrong part", 7: "not verified", REFUSED: "refused"}
 TRIES = 128
-"""So many ids are tried until the device takes one: each must be greater than those before it."""
+"""How many ids are tried until the device takes one: each must be greater than those before it."""
 MOST_SHOWN = 3
 Cells = list[list[Any]]
 """Cells with their new values, as a scenario's download has them."""
@@ -38,7 +38,7 @@ IN_FORCE_SECONDS = 5.0
 @dataclass
 class Load:
     """What an intersection's device gets: its number and name, where it is, its tables before and after, and the
-    downloads between them, each a list of cells. `alike` are the intersections that only a name tells from it,
+    downloads between them, each a list of cells. `alike` are the intersections that only a name distinguishes from it,
     `called_before` is its name in the old plan, `held` the intersections by their tables in the old plan."""
 
     number: int
@@ -59,7 +59,7 @@ class Load:
         return {" ".join(it.split()) for it in (self.called, self.called_before)}
 
     def lines(self) -> Iterator[str]:
-        """Yields what is to be done, in words."""
+        """Yields the steps to do, in words."""
         count, cells = len(self.downloads), differing(self.old, self.new)
         yield f"{self}: {count} download{'s'[: count - 1]}, {len(cells)} value{'s'[: len(cells) - 1]} to change"
         for cell in cells:
@@ -81,7 +81,7 @@ class Device:
         return Wrong(f"{self.load}: {words}")
 
     def value_at(self, name: Name) -> Value | None:
-        """Returns the value of an object; None where the device doesn't have it."""
+        """Returns the value of an object; None if the device doesn't have it."""
         reply = self.agent.ask(GET, [(name, None)])
         if reply.status == NO_SUCH_NAME:
             return None
@@ -99,7 +99,7 @@ class Device:
         ]
 
     def read(self, cells: list[Cell]) -> dict[Cell, Value]:
-        """Returns what is in some cells."""
+        """Returns the values of some cells."""
         found: dict[Cell, Value] = {}
         for at in range(0, len(cells), CELLS_OF_A_PART):
             part = cells[at : at + CELLS_OF_A_PART]
@@ -110,13 +110,13 @@ class Device:
         return found
 
     def name(self) -> str:
-        """Returns what the device is called; empty where it has no name."""
+        """Returns what the device is called; empty if it has no name."""
         found = self.value_at(SYS_NAME)
         return " ".join(found.decode("utf-8", "replace").split()) if isinstance(found, bytes) else ""
 
     def check(self, by_address: bool) -> bool:
         """Refuses a device that isn't the intersection's, or that takes no downloads; it is only read. Returns whether
-        it is to be loaded: not where it has the new plan already."""
+        it is to be loaded: not if it has the new plan already."""
         name = self.name()
         if name and name not in self.load.names():
             shown_name = "".join(it if it.isprintable() else "?" for it in name)
@@ -154,8 +154,8 @@ class Device:
         raise self.wrong(f"it takes no id of {first} to {first + TRIES - 1}; --id names a greater one")
 
     def step(self, bindings: list[tuple[Name, int | bytes | None]], outcome: int) -> None:
-        """Sets the objects of a step of a download, which must come to this outcome. It is a repeated one where the
-        answer to the first try was lost."""
+        """Sets the objects of a step of a download, which must have this outcome. The outcome is that of a repeated Set
+        if the answer to the first try was lost."""
         status = self.set(bindings).status
         said, rule, row = (self.value_at(it) for it in (OUTCOME, DETAIL, ROW))
         if status or said not in (outcome, REPEATED):
@@ -193,8 +193,8 @@ def whole(tables: Tables) -> tuple[Value, ...]:
 
 
 def alike(both: list[tuple[Tables, Tables]]) -> list[list[int]]:
-    """Returns for each intersection, with its tables before and after, the numbers of those that nothing but a name
-    tells from it: whose tables, before or after, are also its own."""
+    """Returns for each intersection, with its tables before and after, the numbers of those that only a name
+    distinguishes from it: whose tables, before or after, are also its own."""
     held = [{whole(before), whole(after)} for before, after in both]
     return [
         [number for number, other in enumerate(held, 1) if other is not mine and other & mine] for mine in held

@@ -23,7 +23,7 @@ def many(phases: Iterable[object]) -> str:
 
 
 def service_words(tables: Tables, phase: int) -> str:
-    """Returns of what the least service of a phase is made."""
+    """Returns the parts of a phase's minimum service, in words."""
     walk, clear = (value(tables, ("phase", phase, column)) for column in (2, 3))
     if least_service(tables, phase) > least_green(tables, phase):
         return f"walk {walk} + flashing don't walk {clear}"
@@ -91,7 +91,7 @@ class Sentences:
         )
 
     def rule_4(self, row: int) -> str:
-        """The list names phases of the other ring alone."""
+        """The list names only phases of the other ring."""
         other = next(it for it in sorted(concurrent(self.tables, row)) if self.ring(it) == self.ring(row))
         return (
             f"{self.phase(row)} and {self.phase(other)} are both in ring {self.ring(row)}, which shows one phase at a "
@@ -149,7 +149,7 @@ class Sentences:
         raise AssertionError("the sequence keeps the rule")
 
     def rule_9(self, row: int) -> str:
-        """The phases of a side stand together, and the sides in one order in both rings."""
+        """The phases of a side are together, and the sides are in one order in both rings."""
         side = sides_by_phase(self.tables)
         for ring in RINGS:
             order = value(self.tables, ("sequence", row, ring))
@@ -175,7 +175,7 @@ class Sentences:
         return f"{self.phase(row)} has a yellow change of {seconds(yellow)}{hint}; it must be 3 s or more"
 
     def rule_11(self, row: int) -> str:
-        """The red revert is no longer than any other phase takes at least."""
+        """The red revert is no longer than the minimum service and clearance of any other phase."""
         other = street_rules.sooner(self.tables, row)
         assert other is not None
         least = least_service(self.tables, other) + self.tables.clearance(other)

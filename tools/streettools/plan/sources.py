@@ -1,5 +1,5 @@
-"""Files that `plan` reads: sheets (TOML), workbooks, scenarios and field files (JSON), told apart by their names or by
-their first letters."""
+"""Files that `plan` reads: sheets (TOML), workbooks, scenarios and field files (JSON), distinguished by their names or
+by their first letters."""
 
 import pathlib
 from collections.abc import Callable, Iterator
@@ -16,8 +16,8 @@ from ..shared.values import MOST_BYTES
 
 @dataclass
 class Source:
-    """A file: its name, its text where it is JSON, or where it is a sheet in TOML, what it comes to, and what was found
-    while it was read."""
+    """A file: its name, its text if it is JSON, or if it is a sheet in TOML, what it means, and what was found while it
+    was read."""
 
     path: str
     text: str | None = None
@@ -36,13 +36,13 @@ class Source:
 
 
 def load(path: str, named: str | None = None) -> Source:
-    """Reads a file. `named` is the file with the names of a scenario; where it isn't said, that beside the scenario, if
-    there is one."""
+    """Reads a file. `named` is the file with the names of a scenario; the default is the one next to the scenario, if
+    it exists."""
     return source_of(path, content_of(path), lambda: names_of(path, named))
 
 
 def source_of(path: str, content: bytes, known: Callable[[], names.Names]) -> Source:
-    """Returns what a file of this name and content comes to; `known` gives the names of a scenario."""
+    """Returns the result of a file with this name and content; `known` gives the names of a scenario."""
     source = Source(path)
     if path.endswith(".xlsx") or content[:4] == b"PK\x03\x04":
         from . import book_reading  # here, since openpyxl takes a while
@@ -78,7 +78,7 @@ def names_of(path: str, named: str | None) -> names.Names:
 
 
 def read_sheet(source: Source, read: Callable[[], tuple[dict, list[str]]]) -> None:
-    """Takes up a sheet, with what was left out of it."""
+    """Reads a sheet, with what was left out of it."""
     try:
         sheet, notes = read()
     except Unreadable as unreadable:
@@ -116,7 +116,7 @@ def faults_of(text: str, value: Any) -> Iterator[Finding]:
 
 
 def read_json(source: Source, content: bytes, known: names.Names) -> None:
-    """Takes up a scenario or a field file."""
+    """Reads a scenario or a field file."""
     if len(content) > MOST_BYTES:
         source.error(f"expected at most {MOST_BYTES} bytes, found {len(content)}", line="scenario: limit .")
         return

@@ -23,7 +23,7 @@ class Read:
 
 
 def word_of(*words: str) -> Callable[[object], str]:
-    """Returns what reads one of some words."""
+    """Returns a reader of one of some words."""
 
     def read(it: object) -> str:
         if not isinstance(it, str) or it not in words:
@@ -59,8 +59,7 @@ def started(it: Given) -> Read:
 
 
 def crossing_alone(tables: Tables, phase: int) -> None:
-    """Gives a phase the times of a crossing that is served alone: no vehicles; yellow is the buffer behind the
-    clearance."""
+    """Gives a phase the times of a crossing without vehicles; yellow is the buffer after the clearance."""
     kept = value(tables, ("phase", phase, 21)) & fields.ENABLED
     for column, new in {2: 7, 3: 0, 4: 0, 5: 0, 6: 0, 8: 30, 9: 0, 10: 20, 20: 2, 21: kept}.items():
         put(tables, ("phase", phase, column), new)

@@ -52,7 +52,7 @@ def rule_3(tables: Tables) -> Iterator[int]:
 
 
 def rule_4(tables: Tables) -> Iterator[int]:
-    """The list names phases of the other ring alone."""
+    """The list names only phases of the other ring."""
     ring = {it: value(tables, ("phase", it, 22)) for it in ALL}
     return phase_rule(tables, lambda it: all(ring[other] != ring[it] for other in concurrent(tables, it)))
 
@@ -91,7 +91,7 @@ def rule_8(tables: Tables) -> Iterator[int]:
 
 
 def side_turns(tables: Tables, number: int, ring: int) -> list[frozenset[int]]:
-    """Returns the sides in the order in which a ring of a sequence comes to them, each as often as it does."""
+    """Returns the sides in the order in which a ring of a sequence serves them, each as often as it does."""
     side = sides_by_phase(tables)
     turns: list[frozenset[int]] = []
     for phase in value(tables, ("sequence", number, ring)):
@@ -101,7 +101,7 @@ def side_turns(tables: Tables, number: int, ring: int) -> list[frozenset[int]]:
 
 
 def rule_9(tables: Tables) -> Iterator[int]:
-    """The phases of a side stand together, and the sides in one order in both rings."""
+    """The phases of a side are together, and the sides are in one order in both rings."""
     for number in used_sequences(tables):
         turns = [side_turns(tables, number, ring) for ring in RINGS]
         if turns[0] != turns[1] or len(set(turns[0])) < len(turns[0]):
@@ -123,7 +123,7 @@ def sooner(tables: Tables, phase: int) -> int | None:
 
 
 def rule_11(tables: Tables) -> Iterator[int]:
-    """The red revert is no longer than the least service and clearance of any other phase together."""
+    """The red revert is no longer than the minimum service and clearance of any other phase together."""
     return phase_rule(tables, lambda it: sooner(tables, it) is None)
 
 

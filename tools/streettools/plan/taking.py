@@ -9,7 +9,7 @@ from .sources import Source
 
 
 class Refused(Fault):
-    """A file or words can't be taken, in lines."""
+    """A file or words aren't accepted; the lines say why."""
 
 
 def taken(path: str, named: str | None = None) -> Source:
@@ -30,13 +30,13 @@ def sheet(path: str, named: str | None = None) -> Street:
 
 def start_of(street: Street) -> float | None:
     """Returns the time of day at which a street starts, in seconds: that of the master's clock, else of the first
-    intersection's; None where neither is said."""
+    intersection's; None if neither is said."""
     clocks = (street.scenario.get("master", {}).get("clock"), street.scenario["cabinets"][0].get("clock"))
     found = next((it for it in clocks if it is not None), None)
     return None if found is None else found % DAY_TICKS / 10
 
 
 def travels_of(street: Street) -> list[int] | None:
-    """Returns the ticks from each intersection to the next; None where not all are said."""
+    """Returns the ticks from each intersection to the next; None if not all are said."""
     found = [it.travel for it in street.names.intersections[:-1]]
     return [round(10 * it) for it in found if it is not None] if found and None not in found else None

@@ -10,7 +10,7 @@ from .pattern_rules import has_pair
 from .sentences import many, seconds
 
 TIGHT = 10
-"""Below so many ticks to spare a split only just fits."""
+"""With fewer ticks to spare than this, a split only just fits."""
 
 
 def rooms(laid: Layout, partners: list[int]) -> dict[int, int]:
@@ -19,7 +19,7 @@ def rooms(laid: Layout, partners: list[int]) -> dict[int, int]:
 
 
 def of_pattern(tables: Tables, pattern: int, number: int, names: Names) -> Iterator[Finding]:
-    """Yields in one line what only just fits in a pattern, other than all of it."""
+    """Yields in one line what only just fits in a pattern; patterns of which all just fits are reported elsewhere."""
     where, known, laid = names.called(number), names.intersection(number), Layout(tables, pattern)
     tight = {phase: room for phase, room in rooms(laid, known.partners).items() if 0 <= room < TIGHT}
     if tight:

@@ -14,8 +14,8 @@ from .sentences import many, seconds
 
 RED_LIKE_SECONDS, PASSAGE_LIKE_SECONDS = range(1, 6), range(1, 10)
 MOST_RED, MOST_PASSAGE = 60, 90
-"""Above so many ticks a red clearance, or a passage time, is probably one in tenths: the MUTCD has 6 s as the longest
-red clearance."""
+"""A red clearance, or a passage time, of more ticks than this is probably one in tenths: the MUTCD has 6 s as the
+longest red clearance."""
 
 PEDESTRIAN = next(bit for bit, word in RECALLS.items() if word == "pedestrian")
 FASTEST = {"us": 65, "metric": 110}
@@ -113,7 +113,7 @@ def of_greens(row: Row) -> Iterator[Finding]:
 
 
 def of_cabinet(tables: Tables, number: int, names: Names) -> Iterator[Finding]:
-    """Yields what is doubtful in the times of the phases of an intersection."""
+    """Yields the doubts about the times of the phases of an intersection."""
     for phase in tables.enabled():
         if phase not in names.intersection(number).partners:
             row = row_of(tables, phase, number, names)

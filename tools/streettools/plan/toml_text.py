@@ -41,7 +41,7 @@ def scalar(value: object) -> str:
 
 
 def key(name: str) -> str:
-    """Returns a name, quoted where it must be."""
+    """Returns a name, quoted if it must be."""
     return name if re.fullmatch(r"[A-Za-z0-9_-]+", name) else scalar(name)
 
 
@@ -110,7 +110,7 @@ def text(sheet: dict[str, Any]) -> str:
 
 
 def read(content: str) -> dict[str, Any]:
-    """Returns the sheet that a text is; Unreadable, with line and column, where it is no TOML."""
+    """Returns the sheet that a text is; raises Unreadable, with line and column, if it isn't valid TOML."""
     try:
         return plain(content)
     except ValueError as fault:

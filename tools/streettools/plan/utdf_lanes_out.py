@@ -35,15 +35,15 @@ class Groups:
     lanes: dict[str, dict[str, str]] = field(default_factory=dict)
 
     def link(self, record: str, way: str, said: str) -> None:
-        """Says something of an approach, where nothing is said yet."""
+        """Sets a record of an approach, unless it is already set."""
         self.links.setdefault(record, {}).setdefault(way, said)
 
     def lane(self, record: str, lanes: str, said: str) -> None:
-        """Says something of a lane group, where nothing is said yet."""
+        """Sets a record of a lane group, unless it is already set."""
         self.lanes.setdefault(record, {}).setdefault(lanes, said)
 
     def columns(self) -> list[str]:
-        """Returns the lane groups that something is said of, beside the usual ones."""
+        """Returns the lane groups with a record that aren't among the usual ones."""
         return [lanes for row in self.lanes.values() for lanes in row if lanes not in COLUMNS]
 
 
@@ -67,7 +67,7 @@ class Writing:
         return [it for it in self.volumes.flows if it.cabinet == number] if self.volumes else []
 
     def add_volumes(self, number: int) -> None:
-        """Says the lane groups of a cabinet's movements."""
+        """Adds the lane groups of a cabinet's movements."""
         flows, groups = self.flows(number), self.groups[number]
         names = {it.name for it in flows}
         for flow in flows:
@@ -89,7 +89,7 @@ class Writing:
                 groups.lanes.setdefault("PedCalls", {})[str(it.phase)] = shown(it.persons)
 
     def add_volume(self, groups: Groups, flow: Flow, names: set[str]) -> str:
-        """Says the vehicles of a movement: where only a share of them goes on, in two lane groups that share its lanes.
+        """Adds the vehicles of a movement: if only a share of them goes on, in two lane groups that share its lanes.
         Returns the one that goes on: by its way, or the movement's own."""
         if not flow.onward or flow.onward.share == 1:
             groups.lane("Volume", flow.name, shown(flow.volume))
@@ -110,7 +110,7 @@ class Writing:
         return onward
 
     def add_link(self, start: int, end: int, way: str, seconds: float) -> None:
-        """Says the approach by which vehicles drive from one intersection to another."""
+        """Adds the approach by which vehicles drive from one intersection to another."""
         if way not in WAYS:
             self.notes.append(f"approach {way} of cabinet {end} is not a direction, as EB: not written")
             return
@@ -123,7 +123,7 @@ class Writing:
                 groups.link("Distance", way, shown(distance))
 
     def add_detectors(self, number: int) -> None:
-        """Says the detectors that are called by their lane groups."""
+        """Adds the detectors that are called by their lane groups."""
         called = self.street.names.intersection(number).detectors
         for it in self.street.bank:
             if it["cabinet"] != number:
@@ -139,7 +139,7 @@ class Writing:
                     self.groups[number].lane(record, lanes, shown(it[name] * scale))
 
     def add_names(self, number: int, known: Intersection) -> None:
-        """Says streets, speeds and lane groups by the names of phases."""
+        """Adds streets, speeds and lane groups by the names of phases."""
         groups = self.groups[number]
         for phase, it in sorted(known.phases.items()):
             found = NAME.fullmatch(it.name)
@@ -168,7 +168,7 @@ class Writing:
         return "EB"
 
     def add_travel(self, number: int, known: Intersection) -> None:
-        """Says the link from an intersection to the next one and back, where no movement has said it."""
+        """Adds the link from an intersection to the next one and back, if no movement has added it."""
         if not known.travel:
             return
         ways = self.groups[number + 1].links.get("Up ID", {})

@@ -23,7 +23,7 @@ UP, TIME = ("Up ID", "Up Node"), ("Time", "Travel Time", "TravelTime")
 TAKEN = ("Name", "Distance", "Speed", *UP, *TIME)
 FEET_A_SECOND, METRES_A_SECOND = 5280 / 3600, 1 / 3.6
 FARTHEST = 64
-"""Over so many nodes without signals a way may lead."""
+"""A way passes at most this number of nodes without signals."""
 
 
 def turned(lanes: str) -> str:
@@ -34,7 +34,7 @@ def turned(lanes: str) -> str:
 
 class Reached(NamedTuple):
     """An intersection with signals that a way leads to: its node, the way there, the seconds and the distance, None
-    where the file doesn't say it."""
+    if the file doesn't say it."""
 
     node: str
     way: str
@@ -81,7 +81,7 @@ class Links:
         return BLANK
 
     def up(self, node: str, way: str) -> str:
-        """Returns the node that an approach comes from, empty where the file doesn't say it."""
+        """Returns the node from which an approach leads here, empty if the file doesn't say it."""
         entry = self.entry(node, way, *UP) or self.layout.get(node, {}).get(LEGS[way] + "_ID", BLANK)
         number = self.utdf.whole(entry)
         return str(number) if number else ""
@@ -113,7 +113,7 @@ class Links:
 
     def follow(self, node: str, way: str) -> Reached | None:
         """Returns the intersection with signals that an approach leads to, straight on over nodes without signals; None
-        where the street ends before."""
+        if the street ends before."""
         seconds, length = self.seconds(node, way), self.distance(node, way)
         before = self.up(node, way)
         for _ in range(FARTHEST):
@@ -130,7 +130,7 @@ class Links:
         return None
 
     def between(self, node: str, aim: str) -> Reached | None:
-        """Returns how vehicles drive from one intersection with signals to another; None where no way leads there."""
+        """Returns how vehicles drive from one intersection with signals to another; None if no way leads there."""
         for approach in self.next.get(node, ()):
             found = self.follow(*approach)
             if found is not None and found.node == aim:

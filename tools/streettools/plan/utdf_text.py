@@ -19,7 +19,7 @@ SECTIONS = ("network", "nodes", "links", "lanes", "timeplans", "phases", "plans"
 INTERVAL = re.compile(r"([0-9]{1,3}) minute counts?", re.IGNORECASE)
 NUMBER = re.compile(r"[+-]?([0-9]{1,15}(\.[0-9]{0,15})?|\.[0-9]{1,15})([eE][+-]?[0-9]{1,2})?")
 MOST_ROWS = 200_000
-"""A file has at most so many lines: 5,000 intersections have fewer."""
+"""A file has at most this number of lines: 5,000 intersections have fewer."""
 
 
 class Entry(str):
@@ -49,8 +49,8 @@ Row = dict[str, Entry]
 @dataclass
 class Utdf:
     """Sections by name, each with its records; a record has the names of the header. `strange` are lines of sections
-    that aren't known, `faults` the fields that can't be read, `interval` the minutes of a count, `notes` what was noted
-    of the whole file."""
+    that aren't known, `faults` the fields that can't be read, `interval` the minutes of a count, `notes` are notes on
+    the whole file."""
 
     sections: dict[str, list[Row]] = field(default_factory=dict)
     strange: list[str] = field(default_factory=list)
@@ -71,7 +71,7 @@ class Utdf:
         }
 
     def setting(self, name: str) -> Entry:
-        """Returns a setting of the network; blank where there is none."""
+        """Returns a setting of the network; blank if there is none."""
         found = (
             it.get("DATA", BLANK)
             for it in self.records("network")
@@ -80,7 +80,7 @@ class Utdf:
         return next(found, BLANK)
 
     def number(self, entry: Entry | None) -> float | None:
-        """Returns the number that a field has, None where it is blank. One that can't be read is kept as a fault."""
+        """Returns the number that a field has, None if it is blank. One that can't be read is kept as a fault."""
         if not entry:
             return None
         if NUMBER.fullmatch(entry) and math.isfinite(float(entry)):
@@ -90,7 +90,7 @@ class Utdf:
         return None
 
     def whole(self, entry: Entry | None) -> int | None:
-        """Returns the whole number that a field has, None where it is blank."""
+        """Returns the whole number that a field has, None if it is blank."""
         found = self.number(entry)
         if found is not None and entry and not found.is_integer():
             self.fault(entry, f"{str(entry)[:40]!r} is not a whole number")
@@ -122,7 +122,7 @@ def rows_of(text: str, file: str) -> Iterator[tuple[int, list[str]]]:
 
 
 def section_of(first: str, row: list[str]) -> str | None:
-    """Returns the section that a line begins, None where it begins none."""
+    """Returns the section that a line begins, None if it begins none."""
     title = first.strip("[]").lower()
     if first.startswith("[") and first.endswith("]"):
         return title
@@ -130,7 +130,8 @@ def section_of(first: str, row: list[str]) -> str | None:
 
 
 def record_of(header: list[str], row: list[str], file: str, line: int, found: Utdf) -> Row:
-    """Returns a record. Fields behind the header are a fault: a comma within a number moves all fields after it."""
+    """Returns a record. Fields after those of the header are a fault: a comma within a number moves all fields after
+    it."""
     entries = [
         Entry.at(it, file, line, column, header[column - 1] if column <= len(header) else "no header")
         for column, it in enumerate(row, 1)

@@ -31,7 +31,7 @@ FORCE_WORDS = {2: 2, 3: 1}
 DETECTOR_COLUMNS = {4: "phase", 6: "delay", 7: "extend", 9: "no_activity", 10: "max_presence", 11: "erratic"}
 PER_SECOND = {"delay": 0.1, "extend": 0.1, "no_activity": 60, "max_presence": 60}
 STATUS = ((1, 4), (4, 10), (4, 11), (4, 12), (4, 13))
-"""Objects below asc that tell what is shown just now, and so have no place in a plan."""
+"""Objects below asc that are a present state, and so have no place in a plan."""
 
 SUBJECTS = {
     (1, 1): "maxPhases", (1, 3): "maxPhaseGroups", (1, 5): "phaseControlGroupTable", (2,): "detector", (3,): "unit",
@@ -45,7 +45,7 @@ SUBJECTS = {
 
 
 def entries(text: str) -> Iterator[tuple[Name, str]]:
-    """Yields each object of a walk with the text of its value, which may go on over several lines."""
+    """Yields each object of a walk with the text of its value, which may continue over several lines."""
     name, value = None, ""
     for line in text.splitlines(keepends=True):
         found = LINE.fullmatch(line.rstrip("\r\n"))
@@ -105,7 +105,7 @@ def read(text: str) -> dict[Name, int | bytes]:
 
 
 def cell_of(name: Name) -> tuple | None:
-    """Returns the cell that an object is, None where it is none."""
+    """Returns the cell that an object is, None if it is none."""
     if name in UNIT:
         return "unit", UNIT[name]
     rest = name[BELOW_ASC:]
@@ -122,7 +122,7 @@ def cell_of(name: Name) -> tuple | None:
 
 @dataclass
 class Walked:
-    """What a walk comes to: tables, the pattern in command, the clock, detectors, and the objects without a place."""
+    """The result of a walk: tables, the pattern in command, the clock, detectors, and the objects without a place."""
 
     tables: Tables = field(default_factory=Tables)
     command: int = 0
@@ -149,7 +149,7 @@ class Walked:
         self.without.setdefault(key, []).append(oids.dotted(name))
 
     def take(self, name: Name, value: int | bytes) -> None:
-        """Takes up an object."""
+        """Reads an object."""
         cell, rest = cell_of(name), name[BELOW_ASC:]
         if cell is not None:
             self.take_cell(name, cell, value)
@@ -173,7 +173,7 @@ class Walked:
             self.leave(name)
 
     def is_quiet(self, name: Name, rest: Name) -> bool:
-        """Tells whether an object says nothing of a plan: an index, or what is shown just now."""
+        """Tells whether an object has nothing of a plan: an index, or a present state."""
         if name[: len(oids.OWN)] == oids.OWN:
             return True
         is_index = (
@@ -187,7 +187,7 @@ class Walked:
         )
 
     def take_cell(self, name: Name, cell: tuple, value: int | bytes) -> None:
-        """Takes up an object that is a cell, where its value may stand there."""
+        """Reads an object that is a cell, if its value is allowed there."""
         kind = kinds()[cell]
         if isinstance(kind, Lists):
             fits = isinstance(value, bytes) and len(value) <= kind.longest

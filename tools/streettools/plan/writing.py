@@ -13,7 +13,7 @@ from .started import Read
 
 
 def read_back(sheet: dict[str, Any]) -> Read | None:
-    """Returns what an intersection of a sheet comes to, None where it has faults."""
+    """Returns the result of an intersection of a sheet, None if it has faults."""
     it = Given(sheet, faults=[])
     found, _ = intersection.read(it)
     return None if it.faults else found
@@ -32,7 +32,7 @@ def drawings(tables: Tables, known: names.Intersection) -> Iterator[drawing.Draw
 
 
 def about(known: names.Intersection) -> dict[str, Any]:
-    """Returns what a sheet says of phases and preempts beside their times."""
+    """Returns what a sheet says of phases and preempts in addition to their times."""
     found: dict[str, Any] = {}
     for number, it in sorted(known.phases.items()):
         row = names.bare(it)
@@ -44,7 +44,7 @@ def about(known: names.Intersection) -> dict[str, Any]:
 
 
 def say(sheet: dict[str, Any], *path: str) -> dict[str, Any]:
-    """Returns the table at a path of a sheet, made where it isn't there."""
+    """Returns the table at a path of a sheet, made if it isn't there."""
     for name in path:
         sheet = sheet.setdefault(name, {})
     return sheet
@@ -56,7 +56,7 @@ def named(of: dict[str, fields.Field], column: int) -> tuple[str, fields.Field]:
 
 
 def say_cell(sheet: dict[str, Any], tables: Tables, cell: tuple) -> None:
-    """Says what stands in a cell, other than of splits, patterns and sequences."""
+    """Writes the value of a cell, other than of splits, patterns and sequences, into a sheet."""
     match cell:
         case ("phase", phase, 21):
             say_options(say(sheet, "phase", str(phase)), value(tables, cell), 0xFFFF)
@@ -72,8 +72,7 @@ def say_cell(sheet: dict[str, Any], tables: Tables, cell: tuple) -> None:
 
 
 def say_options(row: dict[str, Any], options: int, usual: int) -> None:
-    """Says those options of a phase that differ from the usual ones; all of them where there is nothing to differ
-    from."""
+    """Writes those options of a phase that differ from the usual ones; all of them without usual ones."""
     for name in fields.OPTIONS:
         now = fields.show_option(name, options)
         if now != fields.show_option(name, usual):
@@ -81,8 +80,8 @@ def say_options(row: dict[str, Any], options: int, usual: int) -> None:
 
 
 def say_split(row: dict[str, Any], usual: Tables, tables: Tables, number: int, partners: Collection[int]) -> None:
-    """Says a split: the times of all enabled phases where one differs, the coordinated phases, modes that differ;
-    nothing of partners."""
+    """Writes a split: the times of all enabled phases if one differs, the coordinated phases, modes that differ;
+    partners are left out."""
     enabled = set(tables.enabled())
     times = {phase: value(tables, ("split", number, phase, 3)) for phase in ALL}
     before = {phase: value(usual, ("split", number, phase, 3)) for phase in ALL}
@@ -106,7 +105,8 @@ def say_split(row: dict[str, Any], usual: Tables, tables: Tables, number: int, p
 
 
 def say_patterns(sheet: dict[str, Any], usual: Tables, tables: Tables, partners: Collection[int]) -> None:
-    """Says the patterns and splits that differ. A split of one defined pattern alone stands with it."""
+    """Writes the patterns and splits that differ into a sheet. A split that only one defined pattern uses is written
+    with it."""
     cells = differing(usual, tables)
     changed, touched = ({cell[1] for cell in cells if cell[0] == table} for table in ("split", "pattern"))
     runs = {it: value(tables, ("pattern", it, 4)) for it in tables.patterns()}
@@ -125,7 +125,7 @@ def say_patterns(sheet: dict[str, Any], usual: Tables, tables: Tables, partners:
 
 
 def say_pattern(row: dict[str, Any], usual: Tables, tables: Tables, number: int) -> None:
-    """Says what of a pattern differs from the standard and from what is entered where nothing is said."""
+    """Writes what of a pattern differs from the standard and from the defaults into its row."""
     cycle = value(tables, ("pattern", number, 2))
     entered = {"split": number if number in SPLITS else 0, "sequence": 1} if cycle else {}
     for name, each in fields.PATTERN_FIELDS.items():
@@ -137,7 +137,7 @@ def say_pattern(row: dict[str, Any], usual: Tables, tables: Tables, number: int)
 
 
 def say_sequences(sheet: dict[str, Any], usual: Tables, tables: Tables) -> None:
-    """Says the orders of the rings that differ."""
+    """Writes the orders of the rings that differ."""
     for number in SEQUENCES:
         rings = [value(tables, ("sequence", number, ring)) for ring in (1, 2)]
         if rings != [value(usual, ("sequence", number, ring)) for ring in (1, 2)]:
@@ -145,7 +145,7 @@ def say_sequences(sheet: dict[str, Any], usual: Tables, tables: Tables) -> None:
 
 
 def said(base: str, tables: Tables, known: names.Intersection, drawn: drawing.Drawing | None) -> dict[str, Any] | None:
-    """Returns an intersection as a sheet has it with this drawing, None where that doesn't come back as the same
+    """Returns an intersection as a sheet has it with this drawing, None if that doesn't come back as the same
     tables."""
     sheet: dict[str, Any] = {} if base == "std8" else {"standard": base}
     if drawn is not None and drawn != drawing.STANDARD:

@@ -33,7 +33,7 @@ NEAR = 2
 
 
 def beside(old: str, new: str, width: int) -> str:
-    """Returns two texts side by side in so many columns: the lines that differ, and those near them."""
+    """Returns two texts side by side in `width` columns: the lines that differ, and those near them."""
     with tempfile.TemporaryDirectory() as folder:
         files = [pathlib.Path(folder, name) for name in ("old", "new")]
         for file, text in zip(files, (old, new)):
@@ -66,7 +66,7 @@ def near(rows: list[str], apart: list[str]) -> list[str]:
 
 
 def shown(top: pathlib.Path, place: str, old: str | None, new: str | None, width: int) -> str:
-    """Returns the statement of a place as it was recorded, by its digest, beside the one of now."""
+    """Returns the statement of a place as it was recorded, by its digest, next to the present one."""
     if old is None:
         return f"{place}: new, {len((new or '').splitlines())} lines\n"
     before = record.before(top, place, old)

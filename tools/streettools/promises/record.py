@@ -24,7 +24,8 @@ class Unread(Exception):
 
 
 def read(file: pathlib.Path) -> dict[str, str]:
-    """Returns the digests of a file by their names; none if there is no file. Raises Unread for a line that is none."""
+    """Returns the digests of a file by their names, empty if the file doesn't exist. Raises Unread for an invalid
+    line."""
     found = {}
     if file.exists():
         for number, line in enumerate(file.read_text(encoding="utf-8").splitlines(), 1):

@@ -22,7 +22,7 @@ CLAUSE = re.compile(r"\b(?:requires|ensures|decreases)(?:\s+[\w-]+)?\s*$")
 """What precedes the brace of a clause."""
 
 TEXT = re.compile(rf"^{VISIBLE}const \w+:[^=;]*\bstr\b[^=;]*=", re.M)
-"""The head of a constant text: what the program prints word by word is no contract."""
+"""The head of a constant text: what the program prints word by word isn't a contract."""
 
 IMPORT = re.compile(r"^((?:pub |ghost )?use )([^;{\n]+)\.\{([^}]*)\};?[ \t]*$", re.M)
 

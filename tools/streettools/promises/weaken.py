@@ -25,13 +25,13 @@ TOP_CALL, ANSWERS = "crates/station/src/top.rt#station", "crates/station/specs/C
 SAFE, WHOLE = (f"crates/safety_laws/specs/{it}.antt" for it in ("Safe", "Whole"))
 GROUPS = {TOP_CALL: 0, ANSWERS: 1, SAFE: 2, WHOLE: 3, "crates/plan_facts/specs/Meets.antt": 4}
 HEAD = re.compile(r"\s*(?:abbrev|pub (?:record|struct|enum|fn|trait|use|mod)|use|ghost use|#|\}|\)|\{$)")
-"""A row that removing would make no statement weaker: an import, or where a definition or a type begins or ends."""
+"""A row whose removal makes no statement weaker: an import, or where a definition or a type begins or ends."""
 INNER = r"\((?:[^()]|\((?:[^()]|\([^()]*\))*\))*\)"
 WAYS: dict[str, tuple[re.Pattern[str], dict[str, str]]] = {
     "< as ≤": (re.compile(r" < | nat_lt "), {" < ": " ≤ ", " nat_lt ": " nat_le "}),
     "a conjunct dropped": (re.compile(rf" (?:×|&&) (?:[^()×&→⊎{{}}\n]|{INNER})+?(?= ×| &&| →| ⊎| }}|[)\n])"), {}),
 }
-"""What is weakened in a text, and what stands for it then; nothing if it is not among these."""
+"""What is weakened in a text, and what replaces it; an empty text if it isn't among these."""
 
 
 def units(stated: str, text: str) -> Iterator[str]:
@@ -52,7 +52,7 @@ def units(stated: str, text: str) -> Iterator[str]:
 
 
 def pools(top: pathlib.Path) -> list[list[tuple[str, str]]]:
-    """Returns what is drawn from, group by group: each unit with its place."""
+    """Returns the units to choose from, group by group: each with its place."""
     found: list[list[tuple[str, str]]] = [[] for _ in range(6)]
     for place, stated in sorted(reached.Statements(top).items()):
         text = (top / place.partition("#")[0]).read_text(encoding="utf-8")
@@ -71,7 +71,8 @@ def weakened(unit: str, chance: random.Random) -> tuple[str, str]:
 
 
 def trials(top: pathlib.Path, count: int, seed: int) -> Iterator[tuple[str, str, str, str, bool]]:
-    """Weakens that many units in turn; yields the place, the way, the unit, what is left, and whether it is noticed."""
+    """Weakens that many units in turn; yields the place, the way, the unit, what is left, and whether a promise notices
+    it."""
     chance, old, drawn = random.Random(seed), record.read(top / record.PROMISES), pools(top)
     with tempfile.TemporaryDirectory() as folder:
         for it in (*top.glob("crates/*/specs"), *top.glob("crates/*/src")):

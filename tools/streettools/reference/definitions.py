@@ -134,7 +134,7 @@ def files(top: pathlib.Path) -> dict[str, File]:
 
 
 def areas(known: dict[str, File]) -> Iterator[tuple[str, str, list[File]]]:
-    """Yields the title, the introduction and the files of each area; a crate stands for all of its files that no area
+    """Yields the title, the introduction and the files of each area; a crate means all of its files that no area
     names."""
     listed = tomllib.loads(AREAS.read_text(encoding="utf-8"))["area"]
     named_ones = {it for area in listed for it in area["files"]}

@@ -50,7 +50,7 @@ def public() -> list[str]:
 
 
 def found(name: str) -> Any:
-    """Returns what a name stands for."""
+    """Returns the value of a name."""
     thing: Any = package()
     for part in name.split("."):
         thing = getattr(thing, part)

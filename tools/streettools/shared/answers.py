@@ -1,9 +1,9 @@
-"""What a cabinet's reply tells of the orders in it: a clock that was set, a priority request that was given or
+"""What a cabinet's reply says of the orders in it: a clock that was set, a priority request that was given or
 cancelled; and a Set that was refused.
 
-A reply repeats the bindings of a Set (RFC 1157), so an order that was taken stands in a reply of status 0. A reply to a
-Get names the clock too, with the clock's own value; only who knows the clock can tell the two apart. A Get that was
-refused repeats its bindings, too, and they have the value Null.
+A reply repeats the bindings of a Set (RFC 1157), so an accepted order is in a reply of status 0. A reply to a Get also
+names the clock, with the clock's own value; only a reader that knows the clock can distinguish the two. A refused Get
+also repeats its bindings, and they have the value Null.
 """
 
 from typing import NamedTuple
@@ -21,7 +21,8 @@ OBJECTS = {
     oids.BEGIN: "downloadBegin.0", oids.ID: "downloadId.0", oids.PART: "downloadPart.0",
     oids.TOTAL: "downloadTotal.0", oids.FINISH: "downloadFinish.0",
 }  # fmt: skip
-"""The objects that a Set may have beside the columns of the tables, by their names in `mibs/ARTERIAL-PROFILE-MIB`."""
+"""The objects that a Set may have in addition to the columns of the tables, by their names in
+`mibs/ARTERIAL-PROFILE-MIB`."""
 
 ERRORS = {1: "tooBig", 2: "noSuchName", 3: "badValue", 4: "readOnly", 5: "genErr"}
 """The error statuses of RFC 1157."""
@@ -60,8 +61,8 @@ Order = ClockNamed | Requested | Cancelled
 
 
 def orders(digits: str) -> list[Order]:
-    """Returns the orders that a reply's hexadecimal digits name, in their order; none if its status isn't 0, or if it
-    is no reply."""
+    """Returns the orders that a reply's hexadecimal digits name, in their order; empty if its status isn't 0, or if the
+    digits aren't a reply."""
     if not any(name in digits for name in ORDERS):
         return []
     try:
@@ -95,7 +96,7 @@ def valued(value: Field) -> int | str:
 
 
 def refused(digits: str) -> RefusedSet | None:
-    """Returns the Set that a reply's hexadecimal digits refuse; None if they refuse none, or are no reply."""
+    """Returns the Set that a reply's hexadecimal digits refuse; None if they refuse none, or aren't a reply."""
     try:
         head, pairs = head_of(bytes.fromhex(digits))
         bindings: list[Binding] = bindings_of(pairs) if head.first else []

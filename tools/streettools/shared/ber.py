@@ -10,7 +10,7 @@ INTEGER, OCTETS, NULL, NAME, LIST = 0x02, 0x04, 0x05, 0x06, 0x30
 ADDRESS, COUNTER, GAUGE, TIME_TICKS, OPAQUE, COUNTER64 = 0x40, 0x41, 0x42, 0x43, 0x44, 0x46
 """The application types of RFC 2578: IpAddress, Counter32, Gauge32 or Unsigned32, TimeTicks, Opaque, Counter64."""
 NO_SUCH_OBJECT, NO_SUCH_INSTANCE, END_OF_VIEW = 0x80, 0x81, 0x82
-"""What stands in place of a value in a Response of version 2c (RFC 3416)."""
+"""Tags that replace a value in a Response of version 2c (RFC 3416)."""
 UNSIGNED = {COUNTER: 1 << 32, GAUGE: 1 << 32, TIME_TICKS: 1 << 32, COUNTER64: 1 << 64}
 EMPTY = (NULL, NO_SUCH_OBJECT, NO_SUCH_INSTANCE, END_OF_VIEW)
 MOST_ARCS, ARC_END = 128, 1 << 32
@@ -48,7 +48,7 @@ def fields(octets: bytes) -> list[Field]:
 
 def length_at(octets: bytes, at: int) -> tuple[int, int]:
     """Returns the length that begins at a place, and the place after it: one octet below 128, or 81 to 84 hexadecimal
-    and so many octets."""
+    followed by 1 to 4 octets."""
     if at >= len(octets):
         raise Malformed("a length is missing")
     first = octets[at]
@@ -61,7 +61,7 @@ def length_at(octets: bytes, at: int) -> tuple[int, int]:
 
 
 def several(octets: bytes, count: int) -> list[Field]:
-    """Returns so many values, which fill octets."""
+    """Returns the values in octets; raises Malformed if their number isn't `count`."""
     found = fields(octets)
     if len(found) != count:
         raise Malformed(f"{len(found)} values in place of {count}")

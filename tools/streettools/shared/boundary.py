@@ -1,4 +1,4 @@
-"""The boundary of a tool: whatever a command raises ends as lines on standard error and an exit status."""
+"""The boundary of a tool: any exception of a command becomes lines on standard error and an exit status."""
 
 import os
 import sys
@@ -10,10 +10,10 @@ from .saying import say
 from .status import Status
 
 TRACEBACK = "--traceback"
-"""The word that any command takes: Python's own account of a fault goes to standard error, too."""
+"""The word that any command takes: Python's own account of a fault also goes to standard error."""
 
 HINT = "./arterial prove makes one, --program names another"
-"""What is added where there is no program."""
+"""The hint that is added if a program isn't found."""
 
 OWN = __name__.partition(".")[0]
 """The name of this package: a module of it that is missing is a fault of the tool."""
@@ -34,7 +34,7 @@ def bounded(tool: str, does: Callable[[list[str]], int], words: list[str]) -> in
 
 
 def ended(tool: str, fault: BaseException) -> Status | int:
-    """Says what went wrong, and returns the exit status that goes with it."""
+    """Prints what went wrong, and returns its exit status."""
     if isinstance(fault, KeyboardInterrupt):
         drop_output()
         return Status.INTERRUPTED

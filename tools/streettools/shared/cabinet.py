@@ -1,4 +1,4 @@
-"""What a trace tells of one cabinet as it goes on: tables in force, detectors, cycles of a pattern, how each green
+"""What a trace says of one cabinet as it is read: tables in force, detectors, cycles of a pattern, how each green
 ended."""
 
 from functools import lru_cache
@@ -13,7 +13,7 @@ STAGES = {"e": "entry", "t": "track", "d": "dwell", "x": "exit"}
 WORDS = {"S": "start-up", "F": "free", "E": "ending", "X": "flash", "K": "seek", "C": "coordinated"}
 DAY = 864_000
 MOST_KEPT = 4096
-"""Of modes and frames that come over and over, so many are kept with what they say."""
+"""How many modes and frames that are often repeated are kept with their meaning."""
 
 Changes = tuple[tuple[int, str, str], ...]
 """Phases, each with the letter before and the letter now."""
@@ -53,8 +53,8 @@ def changed(pair: tuple[str, str]) -> Changes:
 
 class Cycle(NamedTuple):
     """A cycle of a pattern begins: `pickup` says whether the pattern was taken up, `error` by how many ticks it begins
-    late (above 0) or early (below 0) by the cabinet's clock; None where the pattern's cycle isn't told. `elapsed`
-    counts the ticks since the local zero before, and is None at a pickup."""
+    late (above 0) or early (below 0) by the cabinet's clock; None if the pattern's cycle isn't known. `elapsed` counts
+    the ticks since the local zero before, and is None at a pickup."""
 
     tick: int
     pattern: int
@@ -65,8 +65,8 @@ class Cycle(NamedTuple):
 
 
 def changed_elsewhere(scenario: dict[str, Any], number: int) -> bool:
-    """Returns whether tables may be changed by other than the scenario's downloads as they are written: by octets of
-    management software, or by a fault that flips an octet of a download."""
+    """Returns whether tables may be changed by anything except the scenario's downloads as they are written: by octets
+    of management software, or by a fault that flips an octet of a download."""
     flips = any(
         it["cabinet"] == number and it["kind"] == "flip" and it["stream"] == "load" and it["way"] == "down"
         for it in scenario.get("faults", ())
@@ -76,7 +76,7 @@ def changed_elsewhere(scenario: dict[str, Any], number: int) -> bool:
 
 
 class Cabinet:
-    """A cabinet of a trace. It is told of frames, inputs and ends of downloads in their order."""
+    """A cabinet of a trace. It takes frames, inputs and ends of downloads in their order."""
 
     def __init__(self, scenario: dict[str, Any], number: int) -> None:
         setup = scenario["cabinets"][number - 1]
@@ -100,13 +100,13 @@ class Cabinet:
         return self.plans[pattern]
 
     def side(self, phase: int) -> int:
-        """Returns a phase's side of the barrier by the tables in force, named by its least phase."""
+        """Returns a phase's side of the barrier by the tables in force, named by its lowest phase."""
         if phase not in self.sides:
             self.sides[phase] = min(self.tables.side(phase), default=phase)
         return self.sides[phase]
 
     def ended(self, load: Load) -> None:
-        """Puts a download in force, where it was accepted."""
+        """Puts a download in force, if it was accepted."""
         if load.version is None:
             return
         self.plans, self.sides = {}, {}
@@ -126,7 +126,7 @@ class Cabinet:
             self.active[item.number] = max(self.active[item.number], item.tick)
 
     def shown(self, frame: Frame) -> None:
-        """Takes over a frame."""
+        """Processes a frame."""
         before = self.frame.vehicles if self.frame else "R" * 16
         for phase, _, shows in changes(before, frame.vehicles):
             if shows == "G":
@@ -134,7 +134,7 @@ class Cabinet:
         self.frame = frame
 
     def cycle(self, frame: Frame) -> Cycle | None:
-        """Returns the cycle that begins with this frame, which isn't taken over yet; None where none does."""
+        """Returns the cycle that begins with this frame, which isn't processed yet; None if none does."""
         mode, before = mode_of(frame.mode), self.frame
         if mode.letter != "C" or frame.counter != 0 or before is None:
             return None
@@ -146,9 +146,9 @@ class Cabinet:
         return Cycle(frame.tick, mode.number, pickup, frame.target, self.error(mode.number, frame.target), elapsed)
 
     def came_round(self, before: Frame, frame: Frame) -> bool:
-        """Returns whether the counter, 0 in the frame before too, has gone round the cycle since. While it stands at 0
-        a line is written for a signal that changes; it stands for less than a cycle there, and for a tick where ticks
-        are skipped."""
+        """Returns whether the counter has gone round the cycle since the frame before, in which it was also 0. While it
+        is at 0, a line is written for a signal that changes; it stays at 0 for less than a cycle, and for one tick when
+        ticks are skipped."""
         if (frame.vehicles, frame.pedestrians) == (before.vehicles, before.pedestrians):
             return True
         known = self.plan(mode_of(frame.mode).number)
@@ -158,8 +158,8 @@ class Cabinet:
         return frame.tick - self.zero >= (known.cycle if dwells else known.cycle // 2)
 
     def error(self, pattern: int, target: int) -> int | None:
-        """Returns by how many ticks a cycle begins late or early, on the side from which it is corrected: early where
-        cycles are drawn out (dwell, add-only, and shortway where that takes no more cycles), else late."""
+        """Returns by how many ticks a cycle begins late or early, on the side from which it is corrected: early if
+        cycles are lengthened (dwell, add-only, and shortway if that takes no more cycles), else late."""
         known = self.plan(pattern)
         if known is None:
             return None
@@ -168,8 +168,8 @@ class Cabinet:
         return target if late or target == 0 else target - known.cycle
 
     def needed(self, cycle: Cycle) -> int | None:
-        """Returns in how many cycles at most an undisturbed cabinet comes onto its offset, from a cycle that begins;
-        None where the pattern's cycle isn't told."""
+        """Returns the maximum number of cycles in which an undisturbed cabinet reaches its offset, from a cycle that
+        begins; None if the pattern's cycle isn't known."""
         known = self.plan(cycle.pattern)
         if known is None:
             return None
@@ -177,7 +177,7 @@ class Cabinet:
         return cycles_needed(correction(self.tables), known.cycle, cycle.target, drifts)
 
     def is_met(self, cycle: Cycle) -> bool:
-        """Returns whether a cycle begins on the offset: to within a tick where the clock drifts."""
+        """Returns whether a cycle begins on the offset: to within a tick if the clock drifts."""
         known = self.plan(cycle.pattern)
         if cycle.error is None or known is None:
             return False
@@ -196,7 +196,7 @@ class Cabinet:
         return bool(quiet >= max(1, self.tables.phase(phase, 5)))
 
     def ending(self, phase: int, frame: Frame) -> str:
-        """Returns how the green of a phase ends with this frame, which isn't taken over yet."""
+        """Returns how the green of a phase ends with this frame, which isn't processed yet."""
         mode = mode_of(frame.mode)
         if mode.letter != "F" and mode.letter != "C":
             return mode.words
@@ -227,14 +227,14 @@ def opened(scenario: dict[str, Any], number: int) -> Cabinet:
 
 
 class Clock:
-    """A cabinet's clock, in ticks since midnight; it may gain or lose a tick at each so many."""
+    """A cabinet's clock, in ticks since midnight; it may gain or lose a tick at each multiple of a number of ticks."""
 
     def __init__(self, setup: dict[str, Any]) -> None:
         self.value, self.tick = int(setup.get("clock", 0)), 0
         self.gain, self.lose = int(setup.get("gain", 0)), int(setup.get("lose", 0))
 
     def at(self, tick: int) -> int:
-        """Returns the time of day after a tick that is no earlier than the last time the clock was set."""
+        """Returns the time of day after a tick, which must not be before the last time the clock was set."""
         drift = 0
         if self.gain:
             drift += tick // self.gain - self.tick // self.gain
@@ -243,7 +243,7 @@ class Clock:
         return (self.value + tick - self.tick + drift) % DAY
 
     def named(self, ticks: int, tick: int) -> bool:
-        """Takes over a time that a reply names; returns whether the clock was set to another than it showed."""
+        """Takes over a time that a reply names; returns whether it differs from what the clock showed."""
         if ticks == self.at(tick):
             return False
         self.value, self.tick = ticks, tick

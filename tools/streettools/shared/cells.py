@@ -1,4 +1,4 @@
-"""Cells of a cabinet's tables: which there are, what may stand in each, and how tables differ.
+"""Cells of a cabinet's tables: which exist, what is allowed in each, and how tables differ.
 
 A cell is a tuple, as ("phase", 2, 4): a table's name, the numbers of the row, the column. Lists of phases are tuples of
 numbers. The cells and their ranges are those of docs/SCENARIO.md."""
@@ -40,7 +40,7 @@ PREEMPT: dict[int, "Numbers | Lists"] = {
 
 @functools.cache
 def kinds() -> dict[Cell, Numbers | Lists]:
-    """Returns each cell that there is, in the order of the tables, with what may stand in it."""
+    """Returns each cell that exists, in the order of the tables, with what is allowed in it."""
     found: dict[Cell, Numbers | Lists] = {}
     for phase in ALL:
         found |= {("phase", phase, column): kind for column, kind in PHASE.items()}
@@ -62,7 +62,7 @@ def places() -> dict[Cell, int]:
 
 @functools.cache
 def unset(cell: Cell) -> Value:
-    """Returns what stands in a cell that a standard table doesn't name."""
+    """Returns the value of a cell that a standard table doesn't name."""
     match cell:
         case ("phase", _, 20) | ("unit", 7 | 8):
             return 1
@@ -72,7 +72,7 @@ def unset(cell: Cell) -> Value:
 
 
 def value(tables: Tables, cell: Cell) -> Value:
-    """Returns what stands in a cell."""
+    """Returns the value of a cell."""
     found = tables.cells.get(cell)
     return unset(cell) if found is None else found
 

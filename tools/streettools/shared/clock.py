@@ -41,7 +41,7 @@ def moment(text: str) -> datetime.datetime:
 
 
 def dated(text: str) -> datetime.datetime | datetime.date:
-    """Reads a time of day with its date, or the date alone, in no zone, for argparse."""
+    """Reads a time of day with its date, or only the date, without a zone, for argparse."""
     try:
         value = datetime.date.fromisoformat(text)
     except ValueError:
@@ -76,8 +76,8 @@ def run_ticks(text: str) -> int:
 
 
 class At(NamedTuple):
-    """A moment of a run as it is written: ticks since the start, None where it can't be that, and ticks since midnight,
-    None where it is no time of day."""
+    """A moment of a run as it is written: ticks since the start, None if it isn't such a time, and ticks since
+    midnight, None if it isn't a time of day."""
 
     text: str
     since: int | None
@@ -98,9 +98,9 @@ def at(text: str) -> At:
 
 
 def placed(moment: At, start: float | None, clock: int, ticks: int) -> int:
-    """Returns the tick of a moment in a run of so many ticks. Where times of day are shown (`start` is the second of
-    the day at which the run starts) a time with a colon is one. Elsewhere it is the time since the start; if that is
-    beyond the end, it is the time of day by the clock (ticks since midnight) with which the run starts."""
+    """Returns the tick of a moment in a run of `ticks` ticks. If times of day are shown (`start` is the second of the
+    day at which the run starts), a time with a colon is one. Otherwise it is the time since the start; if that is
+    beyond the end, it is the time of day by `clock`, the clock with which the run starts (ticks since midnight)."""
     begun = clock if start is None else round(10 * start)
     of_day = None if moment.of_day is None else (moment.of_day - begun) % DAY_TICKS
     if moment.since is not None and (of_day is None or (start is None and moment.since <= ticks)):

@@ -11,7 +11,7 @@ Path = str | os.PathLike[str]
 
 @contextlib.contextmanager
 def blamed(path: Path, *names: str) -> Iterator[None]:
-    """Lets a fault in writing, which tells no file or one of these names, tell `path`."""
+    """Makes a fault in writing name `path`, if it names no file or one of these names."""
     try:
         yield
     except OSError as fault:
@@ -22,9 +22,9 @@ def blamed(path: Path, *names: str) -> Iterator[None]:
 
 @contextlib.contextmanager
 def whole(path: Path, is_private: bool = False) -> Iterator[str]:
-    """Gives the name of a file beside `path`, which takes its place at the end; where that isn't reached nothing is
-    left of it and what stood at `path` still stands. What is no file, as a pipe, is written as it goes. A private file
-    can be read by its owner only."""
+    """Gives the name of a file next to `path`, which replaces `path` at the end. If the end isn't reached, the new file
+    is removed and `path` stays as it is. If `path` isn't a regular file, as a pipe, it is written directly. A private
+    file can be read by its owner only."""
     if os.path.exists(path) and not os.path.isfile(path):
         with blamed(path):
             yield str(path)
@@ -52,8 +52,8 @@ def whole(path: Path, is_private: bool = False) -> Iterator[str]:
 
 @contextlib.contextmanager
 def output(path: Path | None) -> Iterator[TextIO]:
-    """Gives a text to write to: a file that is written whole, or standard output where none is named. A fault in
-    writing tells which."""
+    """Gives a text to write to: a file that is written whole, or standard output if `path` is None. A fault in writing
+    says which."""
     if path is None:
         with blamed("standard output"):
             yield sys.stdout

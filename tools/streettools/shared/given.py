@@ -1,6 +1,6 @@
 """Files in TOML, and what their tables say: each name once, each of its kind, and no other names.
 
-A table is read in one of two ways: the first fault is raised, or all faults are collected and reading goes on."""
+A table is read in one of two ways: the first fault is raised, or all faults are collected and reading continues."""
 
 import difflib
 import math
@@ -28,8 +28,8 @@ DEEPEST = 32
 
 
 def plain(text: str) -> dict[str, Any]:
-    """Returns what a text in TOML says. ValueError where it is none, where lists and tables are nested too deep, and
-    where a number is infinite, is none (nan), or takes more than 64 bits."""
+    """Returns what a text in TOML says. Raises ValueError if it isn't valid TOML, if lists and tables are nested too
+    deep, and if a number is infinite, is none (nan), or takes more than 64 bits."""
     try:
         found = tomllib.loads(text)
     except RecursionError:
@@ -76,7 +76,7 @@ def content_of(path: pathlib.Path | str) -> bytes:
 
 
 def is_of(value: Any, kind: Any) -> bool:
-    """Tells whether a value is of a kind; true and false are no numbers."""
+    """Tells whether a value is of a kind; true and false aren't numbers."""
     return isinstance(value, kind) and (kind in (bool, object) or not isinstance(value, bool))
 
 
@@ -110,7 +110,7 @@ class Unreadable(Fault):
 
 
 def is_place(word: str, most: int) -> bool:
-    """Tells whether a word is a number from 1 to the greatest."""
+    """Tells whether a word is a number from 1 to `most`."""
     return word.isdecimal() and len(word) <= 9 and 1 <= int(word) <= most
 
 
@@ -120,7 +120,7 @@ class Given:
     others.
 
     Without `faults` the first fault is raised, with its path, as `vary[0].name`. With `faults` each one is added there,
-    with its place in words, as `intersection 2, phase 4`, and reading goes on."""
+    with its place in words, as `intersection 2, phase 4`, and reading continues."""
 
     def __init__(self, table: Any, file: str = "", place: str = "", faults: list[Defect] | None = None) -> None:
         self.file, self.place, self.faults = file, place, faults
@@ -189,7 +189,7 @@ class Given:
         return value
 
     def only(self, names: tuple[str, ...]) -> str:
-        """Returns the one name of several that is there."""
+        """Returns which of several names is given; exactly one must be."""
         self.known.extend(names)
         there = [it for it in names if it in self.table]
         if len(there) != 1:
@@ -244,7 +244,7 @@ class Given:
         return tuple(found)
 
     def numbered(self, name: str, most: int) -> Iterator[tuple[int, "Given"]]:
-        """Yields the tables below a name that are named by numbers from 1, as `phase.2`; "2 6" stands for both."""
+        """Yields the tables below a name that are named by numbers from 1, as `phase.2`; "2 6" means both."""
         for key, it in self.below(name).table.items():
             numbers = key.replace(",", " ").split()
             if not numbers or not all(is_place(word, most) for word in numbers):
@@ -256,7 +256,7 @@ class Given:
                     yield number, self.inner(it, self.at(f"{name} {number}"))
 
     def spread(self, name: str, most: int) -> "Given":
-        """Returns the table at a name with one number from 1 in each of its names; "2 6" stands for both."""
+        """Returns the table at a name with one number from 1 in each of its names; "2 6" means both."""
         found = self.below(name)
         table: dict[str, object] = {}
         for key, value in found.table.items():
@@ -282,5 +282,5 @@ class Given:
                 self.fault("is unknown" + hint, name)
 
     def end(self) -> None:
-        """Refuses names that nobody asked for."""
+        """Refuses names that weren't asked for."""
         self.allow(self.known)

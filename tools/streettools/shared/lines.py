@@ -1,6 +1,6 @@
 """Reads the lines of a trace, one after another, by the grammar in docs/TRACE.md.
 
-A record for each line; text that is no line stops the reading. What lines say together is told by `trace_reader`.
+There is a record for each line; text that isn't a line stops the reading. `trace_reader` says what lines mean together.
 """
 
 import io
@@ -18,12 +18,12 @@ MOST = 4_294_967_295
 COLOURS, SIGNALS, DIGITS = b"GYCR", b"WFD", b"0123456789abcdef"
 PHASES = 16
 MOST_OCTETS = 1472
-"""A reply has at most so many octets."""
+"""How many octets a reply has at most."""
 STAGES = "etdx"
 AT_ONCE = 1 << 18
-"""So many bytes are read at once."""
+"""How many bytes are read at once."""
 MOST_KEPT = 4096
-"""Of words and lines that come over and over, so many are kept with what they say."""
+"""How many words and lines that are often repeated are kept with their meaning."""
 
 
 class Stream(Protocol):
@@ -43,11 +43,11 @@ def number(digits: bytes, most: int = MOST) -> int:
 
 
 usual = lru_cache(MOST_KEPT)(number)
-"""Does the same for numbers that come over and over."""
+"""Does the same for numbers that are often repeated."""
 
 
 def signed(digits: bytes) -> int:
-    """Returns the number of 32 bits that is written with a sign where it is below 0."""
+    """Returns the number of 32 bits that is written with a sign if it is below 0."""
     value = int(digits)
     if not -(2**31) <= value < 2**31 or b"%d" % value != digits:
         raise ValueError
@@ -194,7 +194,7 @@ def scenario(line: bytes) -> Scenario:
 
 
 def record(line: bytes) -> Record:
-    """Returns the record of a line other than the first; ValueError where it is none."""
+    """Returns the record of a line other than the first; raises ValueError if it isn't a line."""
     found = KINDS.get(line[:2])
     if found is None:
         raise ValueError
@@ -202,8 +202,8 @@ def record(line: bytes) -> Record:
 
 
 def blocks(stream: Stream, advance: Callable[[int], object] | None = None) -> Iterator[list[bytes]]:
-    """Yields the lines of a stream, each with its newline, in lists of those that were read at once. `advance` is told
-    how many bytes were read."""
+    """Yields the lines of a stream, each with its newline, in lists of those that were read at once. `advance` is
+    called with the number of bytes that were read."""
     parts, size = [], 0
     while octets := stream.read1(AT_ONCE):
         parts.append(octets)

@@ -30,7 +30,7 @@ STATUS, CONTROL = ASC + (4, 10, 0), ASC + (4, 14, 0)
 STATUS_GROUP = ASC + (1, 4, 1)
 CLOCK, COUNTER_OF_CYCLE, TARGET, MODE = (OWN + (2, number, 0) for number in range(1, 5))
 STATE, BEGIN, ID, PART, TOTAL, FINISH, OUTCOME, DETAIL, ROW = (OWN + (1, number, 0) for number in range(1, 10))
-"""A download: what a master sets, in its order, and what came of it."""
+"""A download: what a master sets, in its order, and the outcome."""
 VERSION = OWN + (1, 10, 0)
 REQUEST, CANCEL = OWN + (4, 1, 0), OWN + (4, 2, 0)
 REQUEST_STATES = OWN + (4, 3, 1)

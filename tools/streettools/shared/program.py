@@ -17,12 +17,12 @@ if TYPE_CHECKING:
     from collections.abc import Callable, Sequence
 
 HERE = os.path.dirname(os.path.dirname(os.path.dirname(os.path.realpath(__file__))))
-"""The folder that has the package: `tools` of a checkout, or the one of an installation, which has the program beside
+"""The folder that has the package: `tools` of a checkout, or the one of an installation, which has the program next to
 it."""
 OWN, FINDER = os.path.join(HERE, "arterial"), os.path.join(HERE, "proved")
 """The program of an installation, and the script that finds the one of a checkout."""
 CARRIED = os.path.join(HERE, "arterial", "data", "program", "arterial")
-"""The program inside the Python package, where a wheel carries one."""
+"""The program inside the Python package, if a wheel carries one."""
 TRIED = os.path.join(HERE, "tried")
 """The script that finds the unproved program of a checkout."""
 MODEL = os.path.join(os.path.dirname(HERE), "model", "program")
@@ -31,7 +31,7 @@ FIND = 'found=$(. "$0" 2>/dev/null) && exec "$found" "$@"; exit 125'
 """A shell script that runs the program which another script finds, which it reads itself: to start one more shell takes
 a while."""
 NONE_HERE = (125,)
-"""The exit status of that script where there is no program."""
+"""The exit status of that script if it doesn't find a program."""
 PATIENCE = 10.0
 """Seconds in which a program whose input or output has ended has to end."""
 MOST_READ, MOST_SAID = 1 << 16, 500
@@ -39,14 +39,14 @@ MOST_READ, MOST_SAID = 1 << 16, 500
 
 
 class NoProgram(Fault):
-    """There is no program that can be run, in words."""
+    """A program that can be run isn't found; the words say why."""
 
     def __init__(self, words: str) -> None:
         super().__init__(words, Status.NO_PROGRAM)
 
 
 class NotProved(NoProgram):
-    """There is no program that was proved in this checkout from the sources that stand in it."""
+    """This checkout has no program that was proved from its present sources."""
 
 
 class Died(Fault):
@@ -66,8 +66,8 @@ class Late(Fault):
 
 
 def found(name: str | None = None) -> "pathlib.Path":
-    """Returns the path of the program of this name; where there is no name that of the one that ARTERIAL_PROGRAM names,
-    that is installed with these tools, that was proved in this checkout, or that is on the path."""
+    """Returns the path of the program of this name. The default is the program that ARTERIAL_PROGRAM names, that is
+    installed with these tools, that was proved in this checkout, or that is on the path."""
     import pathlib
 
     return pathlib.Path(path_of(name))
@@ -82,9 +82,9 @@ def path_of(name: str | None = None) -> str:
 
 
 def answering(name: str | None, tell: "Callable[[str], object]", is_long: bool = False) -> "pathlib.Path":
-    """Returns the path of the program as `found` does. In a checkout in which none was proved yet it is that of the
-    unproved program, if the launcher has built it; else that of the model, unless that would take too long. A function
-    that takes a line is told which."""
+    """Returns the path of the program as `found` does. If this checkout hasn't proved one yet, it is that of the
+    unproved program, if the launcher has built it; else that of the model, unless that would take too long. `tell` is
+    called with a line that says which."""
     try:
         return found(name)
     except NotProved as fault:
@@ -100,8 +100,8 @@ def answering(name: str | None, tell: "Callable[[str], object]", is_long: bool =
 
 
 def tried() -> str | None:
-    """Returns the path of the unproved program that was built in this checkout from the sources that stand in it, None
-    where there is none."""
+    """Returns the path of the unproved program that was built in this checkout from its present sources, None if it
+    isn't there."""
     import subprocess
 
     if not os.path.isfile(TRIED):
@@ -112,14 +112,14 @@ def tried() -> str | None:
 
 def command(*words: str) -> list[str]:
     """Returns the command that runs the program with these words. In a checkout the program is found as the command
-    runs, which takes a while: it ends with a status of NONE_HERE where none was proved."""
+    runs, which takes a while: it ends with a status of NONE_HERE if none was proved."""
     if os.environ.get("ARTERIAL_PROGRAM") or os.path.isfile(OWN) or not os.path.isfile(FINDER):
         return [path_of(), *words]
     return ["/bin/sh", "-c", FIND, FINDER, *words]
 
 
 def usual() -> str:
-    """Returns the path of the program where nothing names it."""
+    """Returns the path of the program if nothing names it."""
     if os.path.isfile(OWN):
         return OWN
     if os.path.isfile(CARRIED):
@@ -144,7 +144,7 @@ def usual() -> str:
 
 
 class Ran(NamedTuple):
-    """What came of a run of the program: its exit status, negative for a signal; its output, unless that went to a
+    """The result of a run of the program: its exit status, negative for a signal; its output, unless that went to a
     file; and what it wrote to standard error, as one line."""
 
     status: int
@@ -166,7 +166,7 @@ def one_line(octets: bytes) -> str:
 
 
 def end_group(pid: int) -> None:
-    """Ends a program that `Running` or `live_in_loop` started and that nobody has waited for, with all it started."""
+    """Ends a program that `Running` or `live_in_loop` started and whose end wasn't waited for, with all it started."""
     import signal
 
     with contextlib.suppress(ProcessLookupError, PermissionError):
@@ -177,7 +177,7 @@ class Running:
     """The program while it runs. Leaving the context ends it."""
 
     def __init__(self, words: "Sequence[str | os.PathLike[str]]", given: Any = None, out: Any = None) -> None:
-        """Starts a command. `given` and `out` are open files; None stands for a pipe."""
+        """Starts a command. `given` and `out` are open files; None means a pipe."""
         import subprocess  # takes a while
 
         pipe = subprocess.PIPE
@@ -205,8 +205,7 @@ class Running:
         return Ran(self.process.returncode, out or b"", one_line(said))
 
     def closed(self) -> Ran:
-        """Waits a while for the end of a program that has closed its output or its input, and returns what is left to
-        know of it."""
+        """Waits a while for the end of a program that has closed its output or its input, and returns its result."""
         import subprocess
 
         with contextlib.suppress(subprocess.TimeoutExpired):

@@ -1,4 +1,4 @@
-"""Bars of progress, on a terminal alone, and only where Python's tqdm is there."""
+"""Bars of progress, only on a terminal, and only if Python's tqdm is installed."""
 
 import contextlib
 import sys
@@ -7,7 +7,7 @@ from typing import Any
 
 
 def bar(total: int | None, unit: str, **more: Any) -> Any:
-    """Returns a bar on standard error; None where no terminal shows it, or where tqdm is missing."""
+    """Returns a bar on standard error; None if no terminal shows it, or if tqdm is missing."""
     if not sys.stderr.isatty():
         return None
     try:

@@ -19,7 +19,7 @@ from .status import Status
 SECONDS = 120.0
 """How long the program may write nothing while it owes an answer."""
 LONGEST = 1 << 24
-"""The octets of the longest answer that is read. One to 600 ticks of 64 cabinets has at most 3 million."""
+"""The bytes of the longest answer that is read. One to 600 ticks of 64 cabinets has at most 3 million."""
 PIECE = 1 << 16
 DOT = b"."
 LISTS = ("inputs", "loads", "priority", "frames", "faults")
@@ -40,7 +40,7 @@ def refusal(answer: Answer) -> bytes | None:
 
 
 class Answers:
-    """Parts what the program writes into answers, in whatever pieces it comes."""
+    """Splits what the program writes, in pieces of any size, into answers."""
 
     def __init__(self) -> None:
         self.lines: Answer = []
@@ -48,7 +48,7 @@ class Answers:
         self.size = 0
 
     def fed(self, octets: bytes) -> list[Answer]:
-        """Takes octets, and returns the answers that end in them."""
+        """Takes bytes, and returns the answers that are complete with them."""
         *lines, self.rest = (self.rest + octets).split(b"\n")
         self.size += len(octets)
         found = []
@@ -74,13 +74,13 @@ class Rounds:
         self.taken = 0
 
     def next(self, count: int) -> int:
-        """Returns how many ticks may be requested now: at most so many, and those left in the round."""
+        """Returns how many ticks may be requested now: at most `count`, and those left in the round."""
         now = min(count, self.left)
         self.left, self.taken = self.left - now or self.ticks, self.taken + now
         return now
 
     def requests(self, count: int) -> Iterator[bytes]:
-        """Yields the requests of so many ticks."""
+        """Yields the requests of `count` ticks."""
         while count:
             now = self.next(count)
             count -= now
@@ -114,7 +114,7 @@ class Session:
         self.end()
 
     def exchanged(self, text: bytes, count: int) -> list[Answer]:
-        """Writes requests, each with its newline, and returns so many answers. It reads while it writes, so that
+        """Writes `count` requests, each with its newline, and returns their answers. It reads while it writes, so that
         neither side waits for the other."""
         found: list[Answer] = []
         while text:
@@ -128,7 +128,7 @@ class Session:
         return found
 
     def written(self, text: bytes) -> int:
-        """Writes what there is room for, and returns how many octets that were."""
+        """Writes what there is room for, and returns how many bytes that were."""
         try:
             return os.write(self.input, text)
         except BlockingIOError:

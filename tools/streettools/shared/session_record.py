@@ -1,7 +1,7 @@
-"""The trace of a session, from what was asked and answered.
+"""The trace of a session, from its requests and answers.
 
 docs/LIVE.md, "What a session means". Nothing is worked out here: the lines are those of the answers, put in the order
-of a trace behind the S line of the scenario that results.
+of a trace after the S line of the scenario that results.
 """
 
 import functools
@@ -22,7 +22,7 @@ MOST_INPUTS, MOST_FRAMES, MOST_SCENARIO, MOST_TRACE = 1_000_000, 100_000, 16_777
 FULL = 0.9
 """Which part of what a scenario leaves free is used before a session ends for its record's sake."""
 OF_ITEM = 60
-"""How many octets more an item has in a scenario than in its request."""
+"""How many bytes more an item has in a scenario than in its request."""
 
 Runs = list[tuple[int, int]]
 """A journal in runs of a pass and a number."""
@@ -40,7 +40,7 @@ def runs_of(line: bytes) -> Runs:
 
 
 def joined(runs: Runs) -> Runs:
-    """Returns runs of which no two of one pass stand side by side, and none is empty."""
+    """Returns runs of which no two neighbours are of one pass, and none is empty."""
     found: Runs = []
     for number, count in runs:
         if found and found[-1][0] == number:
@@ -62,8 +62,8 @@ def without_end(runs: Runs, end: Runs) -> Runs:
 
 
 def is_read(request: bytes, answer: list[bytes]) -> bool:
-    """Tells whether a request is a message on the stream of priority that changes nothing: one that is met with
-    silence, or that is answered and is no Set."""
+    """Tells whether a request is a message on the stream of priority that changes nothing: one that is ignored, or that
+    is answered and isn't a Set."""
     words = request.split(b" ")
     if words[0] != b"frame" or words[2] != b"priority":
         return False
@@ -76,8 +76,8 @@ def is_set(octets: bytes) -> bool:
 
 
 class Brought(NamedTuple):
-    """What a request brought in a round: to a cabinet, or to all where it is 0; the pass, how many items, and whether
-    it is kept."""
+    """What a request brought in a round: to which cabinet, 0 for all; the pass, how many items, and whether it is
+    kept."""
 
     cabinet: int
     number: int
@@ -86,7 +86,7 @@ class Brought(NamedTuple):
 
 
 class Read(NamedTuple):
-    """A request that was taken: what it brought, and the list and the item, but for its round, that it adds to the
+    """A request that was taken: what it brought, and the list and the item (without its round) that it adds to the
     scenario; none for ticks."""
 
     brought: Brought
@@ -105,7 +105,7 @@ def read(request: bytes) -> Read:
 
 @functools.lru_cache(MOST_KNOWN)
 def read_again(request: bytes) -> Read:
-    """Reads an input or ticks: the same requests come again and again."""
+    """Reads an input or ticks; the results are cached, since the same requests are repeated."""
     kind, number, *words = request.decode("ascii").split(" ")
     if kind == "tick":
         return Read(Brought(0, TICKS, int(number), True))
@@ -127,14 +127,14 @@ class SessionRecord:
         self.added: dict[str, list[dict[str, Any]]] = {"inputs": [], "frames": []}
         self.lines: list[bytes] = []
         self.size = self.added_size = 0
-        """The octets of the lines, and about how many those of what was added to the scenario have."""
+        """The bytes of the lines, and about how many bytes the added part of the scenario has."""
         self.journals: dict[int, bytes] = {}
         self.events: dict[int, list[bytes]] = defaultdict(list)
         self.brought: list[Brought] = []
 
     def answered(self, request: bytes | None, answer: list[bytes]) -> bool:
-        """Takes a request and the lines of its answer without the dot; no request stands for the scenario, and for
-        the end of input. Tells whether it is kept."""
+        """Takes a request and the lines of its answer without the dot; None means the scenario, or the end of input.
+        Tells whether it is kept."""
         if answer and answer[0].startswith(b"? "):
             return False
         if request is None:
@@ -200,7 +200,7 @@ class SessionRecord:
         return b"J %d %b" % (cabinet, b" ".join(b"%d*%d" % run for run in runs))
 
     def cut(self) -> None:
-        """Ends the record with the last whole round, as where the session broke off; what came behind is left out."""
+        """Ends the record with the last whole round, as if the session ended there; what follows is left out."""
         while self.lines and not self.lines[-1].startswith(b"R "):
             self.lines.pop()
         if self.lines:

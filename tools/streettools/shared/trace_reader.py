@@ -42,8 +42,8 @@ MOST_NUMBER = {"veh": 16, "ped": 16, "preempt": 8}
 
 
 def inputs_of(scenario: dict[str, Any]) -> dict[int, Came]:
-    """Returns the inputs of each round by cabinet, in the order of the scenario's list; ValueError where one of them is
-    none."""
+    """Returns the inputs of each round by cabinet, in the order of the scenario's list; raises ValueError if one isn't
+    valid."""
     found: dict[int, Came] = {}
     for item in scenario.pop("inputs", ()):
         number, cabinet = item["round"], item["cabinet"]
@@ -73,7 +73,7 @@ class CabinetRound:
         self.answers: list[tuple[int, int, int]] = []
 
     def spread(self, runs: tuple[tuple[int, int], ...], inputs: Sequence[Sensed]) -> None:
-        """Puts the inputs and the replies of a journal behind the ticks that come before them: both in lists from the
+        """Puts the inputs and the replies of a journal after the ticks that come before them: both in lists from the
         last to the first."""
         tick, place = self.end, 0
         for way, count in runs:
@@ -93,14 +93,14 @@ class CabinetRound:
         self.answers.reverse()
 
     def before(self, tick: int) -> list[Input]:
-        """Returns the inputs that came before this tick, which are taken off."""
+        """Removes the inputs that came before this tick, and returns them."""
         found = []
         while self.inputs and self.inputs[-1].tick < tick:
             found.append(self.inputs.pop())
         return found
 
     def next_answer(self) -> tuple[int, int]:
-        """Returns the way and the tick of the next reply due."""
+        """Returns the way and the tick of the next expected reply."""
         if not self.answers:
             raise ValueError
         way, count, tick = self.answers.pop()
@@ -133,7 +133,7 @@ class TraceReader:
 
     def happenings(self, ends: bool = True) -> Iterator[Happening]:
         """Yields what happened: frames, inputs, replies, downloads, notes and ends of rounds, in the order of the
-        trace. Who has no use for the ends of rounds is faster without them."""
+        trace. Reading is faster without the ends of rounds."""
         self.ends, first = ends, 2
         while self.texts is not None:
             texts, at = self.texts, 0
@@ -152,7 +152,7 @@ class TraceReader:
         self.line = first - self.whole
 
     def told(self, text: bytes) -> Sequence[Happening]:
-        """Returns what a line tells, and what is over with it."""
+        """Returns what a line says, and what is over with it."""
         letter = text[:1]
         if self.opened < self.cabinets:
             self.opened += 1
@@ -166,15 +166,15 @@ class TraceReader:
         return self.placed(lines.record(text))
 
     def opening(self, record: Record, number: int) -> Frame:
-        """Returns the frame that a cabinet opens with, which stands here."""
+        """Returns the frame that a cabinet opens with, which is expected here."""
         if not isinstance(record, Frame) or (record.cabinet, record.tick) != (number, 0):
             raise ValueError
         return record
 
     def journals_of(self, counts: tuple[int, ...]) -> list[bytes] | None:
-        """Returns the journals of a round in which cabinets take so many inputs, and then each its ticks; what is given
-        has the cabinets that take some, then how many each of these takes. None where a round has no number of ticks
-        that a journal may have."""
+        """Returns the journals of a round in which cabinets take inputs, and then each its ticks. `counts` has the
+        cabinets that take some, then how many each of these takes. None if the ticks of a round aren't a number that a
+        journal may have."""
         half = len(counts) // 2
         known = dict(zip(counts[:half], counts[half:]))
         taken = [b"0*%d " % known[number] if number in known else b"" for number in range(1, self.cabinets + 1)]
@@ -183,9 +183,9 @@ class TraceReader:
         return [b"J %d %b4*%d\n" % (number, it, self.ticks) for number, it in enumerate(taken, 1)]
 
     def plain_rounds(self, texts: list[bytes], at: int) -> Generator[Happening, None, int]:
-        """Yields what happens in the round that has just begun, and in those behind it, as long as each cabinet takes
-        its inputs and then nothing but ticks; returns the place of the line behind their journals. Of most rounds
-        nothing else is told."""
+        """Yields what happens in the round that has just begun, and in the following ones, as long as each cabinet
+        takes its inputs and then nothing but ticks; returns the place of the line after their journals. Most rounds are
+        of this kind."""
         count, ticks, number, came = self.cabinets, self.ticks, self.round, self.came
         plain, inputs, start = self.plain, self.inputs, (number - 1) * ticks
         empty = plain(())
@@ -208,7 +208,7 @@ class TraceReader:
         return at
 
     def begun(self, journal: Journal) -> Sequence[Happening]:
-        """Takes a journal, where it may stand here, and returns what the round of the cabinet before it leaves."""
+        """Takes a journal, which must be allowed here, and returns what the round of the cabinet before it leaves."""
         cabinet, runs = journal
         left = self.left()
         if self.whole or self.round == 0 or cabinet != self.cabinet + 1 or cabinet > self.cabinets:
@@ -222,7 +222,7 @@ class TraceReader:
         return left
 
     def placed(self, record: Record) -> Sequence[Happening]:
-        """Returns what a line tells that stands within a cabinet's round, or that notes something."""
+        """Returns what a line says that is within a cabinet's round, or that notes something."""
         if self.whole:
             raise ValueError
         match record:
@@ -245,7 +245,7 @@ class TraceReader:
         raise ValueError
 
     def of(self, cabinet: int) -> CabinetRound:
-        """Returns the round of the cabinet whose lines stand here, which must be this one."""
+        """Returns the round of the cabinet whose lines are read now, which must be this one."""
         if self.now is None or cabinet != self.cabinet:
             raise ValueError
         return self.now
@@ -270,7 +270,7 @@ class TraceReader:
         return now.before(now.end + 1)
 
     def next_round(self, text: bytes) -> Sequence[Happening]:
-        """Takes the line of the round that is due, and returns what the one before leaves."""
+        """Takes the line of the expected round, and returns what the one before leaves."""
         if text != b"R %d\n" % (self.round + 1):
             raise ValueError
         over = self.over()
@@ -291,7 +291,7 @@ class TraceReader:
         return over
 
     def over(self) -> Sequence[Happening]:
-        """Returns what a round leaves that is over, and its end, once each cabinet has had its own."""
+        """Returns what a round that is over leaves, and its end, once each cabinet has had its own."""
         if self.whole or (self.round and self.cabinet != self.cabinets):
             raise ValueError
         left = self.left()

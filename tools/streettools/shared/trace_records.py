@@ -51,7 +51,7 @@ class Journal(NamedTuple):
 
 
 class Answer(NamedTuple):
-    """A reply of a cabinet, as hexadecimal digits; None where it was silent."""
+    """A reply of a cabinet, as hexadecimal digits; None if it was silent."""
 
     cabinet: int
     way: int
@@ -76,7 +76,7 @@ class Note(NamedTuple):
 
 
 class End(NamedTuple):
-    """The end, after so many rounds."""
+    """The end, after a number of rounds."""
 
     rounds: int
 
@@ -95,7 +95,7 @@ class Input(NamedTuple):
 
 
 class Answered(NamedTuple):
-    """A reply after a tick: `way` is 1 for polls, 2 for downloads, 3 for priority; `digits` None where silent."""
+    """A reply after a tick: `way` is 1 for polls, 2 for downloads, 3 for priority; `digits` None if silent."""
 
     cabinet: int
     tick: int

@@ -55,7 +55,7 @@ async def cells_of(street: "Street", cabinet: int, base: str) -> list[list[Any]]
 
 
 async def cabinet_of(street: "Street", cabinet: int, left: int) -> dict[str, Any]:
-    """Returns a cabinet as it is in so many ticks."""
+    """Returns a cabinet as it will be in `left` ticks."""
     setup: dict[str, Any] = street.scenario["cabinets"][cabinet - 1]
     values = await read(street, cabinet, [CLOCK, CONTROL, VERSION])
     clock, pattern, version = (number_of(it.content) for it in values)
@@ -64,7 +64,7 @@ async def cabinet_of(street: "Street", cabinet: int, left: int) -> dict[str, Any
 
 
 def later(items: list[dict[str, Any]], done: int) -> list[dict[str, Any]]:
-    """Returns the items of later rounds, when so many rounds are done."""
+    """Returns the items of later rounds, when `done` rounds are done."""
     return [it | {"round": it["round"] - done} for it in items if it["round"] > done]
 
 

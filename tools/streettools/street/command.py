@@ -41,7 +41,7 @@ def say(told: object) -> None:
 
 
 class Telling(Hearer):
-    """Says when a session begins anew."""
+    """Reports when the street begins a new session."""
 
     def __init__(self) -> None:
         self.sessions = 0
@@ -64,7 +64,7 @@ def scenario_of(program: pathlib.Path, text: bytes) -> dict[str, Any]:
 
 
 def text_of(path: str) -> bytes:
-    """Returns the scenario of a file in one line: that which a timing sheet makes, too."""
+    """Returns the scenario of a file in one line; a timing sheet is accepted as well."""
     if is_sheet(path):
         from ..plan import taking  # takes a while
 
@@ -104,14 +104,14 @@ def asked_for(given: argparse.Namespace, program: pathlib.Path) -> tuple[dict[st
 
 
 def names_of(scenario: str) -> "Names | None":
-    """Returns the names of a sheet, or of the file with names beside a scenario, None where there are none."""
+    """Returns the names of a sheet, or of the file with names next to a scenario, None if there are none."""
     from ..plan import streets  # takes a while
 
     return streets.text_of(scenario).names
 
 
 def street_of(given: argparse.Namespace, hearers: list[Hearer]) -> tuple[Street, list[bytes]]:
-    """Returns the street that the words ask for, and what is to happen again in it."""
+    """Returns the street that the words ask for, and the requests to replay in it."""
     program, is_step = answering(given.program, say), words.is_step(given)
     scenario, requests = asked_for(given, program)
     street = Street(str(program), scenario, Pace(0.0 if is_step else given.speed), hearers)
@@ -124,14 +124,14 @@ def street_of(given: argparse.Namespace, hearers: list[Hearer]) -> tuple[Street,
 
 
 def tell_places(street: Street, places: list[ports.Place]) -> None:
-    """Says where the cabinets answer."""
+    """Prints where the cabinets answer."""
     community, count = street.community().decode(), len(places)
     where = f"{places[0]}" if count == 1 else f"{places[0]} to {places[-1]}"
     say(f"{count} cabinet{'s'[: count - 1]} answer{'s'[: count == 1]} at {where}, community {community}")
 
 
 async def held(street: Street, requests: list[bytes], by_clock: bool) -> None:
-    """Lets the street live: what is to happen again first."""
+    """Runs the street: first the requests to replay."""
     if requests:
         street.is_replaying = True
         await Replay(street, requests, street.pace if by_clock else None).play()
@@ -146,7 +146,7 @@ class Opened:
     """The panel, once it is asked for, and its server, once that is open."""
 
     def __init__(self, given: argparse.Namespace) -> None:
-        """Reads what needs packages; one that is missing is raised in words."""
+        """Imports what needs packages; raises Fault if one is missing."""
         try:
             from .panel.panel import Panel
             from .panel.state import PanelState
@@ -160,11 +160,11 @@ class Opened:
         self.server = Server(self.panel, tuple(map(ports.bracketed, names)))
 
     def hearers(self) -> list[Hearer]:
-        """Returns what hears of the street for it."""
+        """Returns the panel's hearers of the street."""
         return [self.state, self.panel]
 
     def hearing(self, asks: ports.Asked) -> ports.Asked:
-        """Returns what asks the cabinets, and shows in the panel what was asked and answered."""
+        """Returns a function that asks the cabinets, and shows requests and answers in the panel."""
 
         async def asked(cabinet: int, octets: bytes, manager: ports.Manager) -> bytes | None:
             reply = await asks(cabinet, octets, manager)
@@ -191,7 +191,7 @@ class Opened:
 
 @dataclass
 class Asked:
-    """What the words ask for: a street, what is to happen again in it, its ports, its panel."""
+    """What the words ask for: a street, the requests to replay in it, its ports, its panel."""
 
     given: argparse.Namespace
     street: Street
@@ -243,7 +243,7 @@ async def served(asked: Asked) -> None:
 
 
 def checked(given: argparse.Namespace) -> str | None:
-    """Returns what is wrong with the words together, None where nothing is."""
+    """Returns what is wrong with the words together, None if nothing is."""
     if given.addresses and given.bind:
         return "--addresses are those of loopback; --bind names one address"
     if given.ticks_per_message is not None and not words.is_step(given):

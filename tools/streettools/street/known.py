@@ -1,6 +1,6 @@
-"""What messages have told each cabinet that can't be read from it: the number of its last download, and the date.
+"""What messages have set in each cabinet, but can't be read from it: the number of its last download, and the date.
 
-Both hear every request with its answer, as the inputs do, so that a record that is replayed tells them the same.
+Both hear every request with its answer, as the inputs do, so that the replay of a record gives them the same.
 """
 
 import calendar
@@ -74,8 +74,8 @@ class Downloads:
         self.greatest[cabinet] = max(self.greatest[cabinet], number)
 
     def next(self, cabinet: int) -> int | None:
-        """Returns a number that a cabinet takes for a download, None if there is none. It is some way above the
-        greatest, so that a manager that counts on from that one doesn't meet it by chance."""
+        """Returns a number that a cabinet takes for a download, None if none is left. It is above the greatest by a
+        gap, so that a manager that counts on from that one doesn't use the same number."""
         greatest = self.greatest[cabinet]
         return min(greatest + GAP, LAST_NUMBER) if greatest < LAST_NUMBER else None
 

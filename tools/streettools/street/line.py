@@ -128,7 +128,7 @@ def spans(where: str, value: Any) -> tuple[tuple[float, float], ...]:
 
 
 def rule_of(where: str, told: Any, count: int) -> Rule:
-    """Returns the rule of a table of the file, in a street of so many cabinets."""
+    """Returns the rule of a table of the file, in a street of `count` cabinets."""
     if not isinstance(told, dict):
         raise Fault(f"{where} is not a table")
     found: dict[str, Any] = {}
@@ -154,7 +154,7 @@ def rule_of(where: str, told: Any, count: int) -> Rule:
 
 
 def line_of(path: pathlib.Path, count: int) -> Line:
-    """Returns the line that a file describes, in a street of so many cabinets."""
+    """Returns the line that a file describes, in a street of `count` cabinets."""
     with path.open("rb") as file:
         text = file.read(LONGEST_FILE + 1)
     try:

@@ -1,15 +1,15 @@
-"""How time goes on: by a clock that nobody sets, at some speed, or by steps."""
+"""How time advances: by a monotonic clock, at some speed, or by steps."""
 
 import time
 from collections.abc import Callable
 
 TICKS_A_SECOND = 10
 MOST_BEHIND = 600
-"""How many ticks are made up for at most after the machine stood still; what is more is left out."""
+"""How many ticks are made up for at most after a pause of the machine; any more are left out."""
 
 
 class Pace:
-    """Says how many ticks are due. With speed 0 time stands, but for the steps that are asked for."""
+    """Says how many ticks are pending. With speed 0 time stops, except for the steps that are asked for."""
 
     def __init__(self, speed: float, now: Callable[[], float] = time.monotonic) -> None:
         self.speed = speed
@@ -19,7 +19,7 @@ class Pace:
         self.steps = 0
 
     def due(self) -> int:
-        """Returns how many ticks are due since this was asked last."""
+        """Returns how many ticks have become pending since the last call."""
         now = self.now()
         self.rest += (now - self.since) * TICKS_A_SECOND * self.speed
         self.since = now
@@ -29,18 +29,18 @@ class Pace:
         return count
 
     def wait(self) -> float:
-        """Returns in how many seconds the next tick is due; a quarter of a second where time stands."""
+        """Returns in how many seconds the next tick becomes pending; a quarter of a second if time is stopped."""
         return (1 - self.rest) / (TICKS_A_SECOND * self.speed) if self.speed else 0.25
 
     def restart(self) -> None:
-        """Lets time go on from now; what went by before makes nothing due."""
+        """Lets time advance from now; the time before makes no tick pending."""
         self.since = self.now()
 
     def set(self, speed: float) -> None:
-        """Lets time go on at another speed from now on; what was due until now stays due."""
+        """Changes the speed from now on; ticks that were pending stay pending."""
         self.steps += self.due()
         self.speed = speed
 
     def step(self, count: int) -> None:
-        """Makes so many ticks due at once."""
+        """Makes `count` ticks pending at once."""
         self.steps += count

@@ -1,4 +1,4 @@
-"""UDP ports of the agents: each datagram is asked of a cabinet, and what it answers goes back."""
+"""UDP ports of the agents: each datagram goes to a cabinet, and its reply goes back."""
 
 import asyncio
 import contextlib
@@ -18,11 +18,11 @@ WAITING = 64
 MOST_LATE = 4096
 """How many datagrams of a street may be late at a time on a bad line; further ones are lost."""
 ROOM = 1 << 20
-"""The octets that the system is asked to hold for a port."""
+"""The bytes that the system is asked to buffer for a port."""
 
 Manager = tuple[str, int]
 Asked = Callable[[int, bytes, Manager], Awaitable[bytes | None]]
-"""Returns the reply of a cabinet to a datagram from an address and a port, None where it is silent."""
+"""Returns the reply of a cabinet to a datagram from an address and a port, None if it is silent."""
 
 
 def bracketed(address: str) -> str:
@@ -42,7 +42,7 @@ class Place:
 
 
 def places(first: Place, count: int, by_address: bool) -> list[Place]:
-    """Returns the places of so many cabinets: one address and port after the other, or one port at one address after
+    """Returns the places of `count` cabinets: one address and port after the other, or one port at one address after
     the other."""
     if not by_address:
         return [Place(first.address, first.port + at if first.port else 0) for at in range(count)]
@@ -52,7 +52,7 @@ def places(first: Place, count: int, by_address: bool) -> list[Place]:
 
 @contextlib.contextmanager
 def opened(wanted: list[Place]) -> Iterator[list[socket.socket]]:
-    """Gives a socket for each place; where one can't be had none is left open."""
+    """Gives a socket for each place; if one isn't available, none is left open."""
     with contextlib.ExitStack() as stack:
         yield [stack.enter_context(bound(place)) for place in wanted]
 
@@ -92,14 +92,14 @@ def place_of(port: socket.socket) -> Place:
 
 
 class Wire:
-    """What is between a port and managers: nothing, but for a bad line and a record of messages."""
+    """What is between a port and managers: nothing, except for a bad line and a record of messages."""
 
     def __init__(self, line: Line | None = None, keep: Callable[[Passed], None] | None = None) -> None:
         self.line, self.keep = line, keep
         self.waiting = 0
 
     def passes(self, way: str, cabinet: int, manager: Manager, octets: bytes, arrives: Callable[[bytes], None]) -> None:
-        """Lets a datagram go over the line, and gives what arrives of it."""
+        """Sends a datagram over the line, and gives what arrives of it."""
         for copy in self.line.passed(cabinet, way, octets) if self.line else [Copy(0.0, octets, ())]:
             is_lost = copy.seconds == math.inf or copy.seconds > 0 and self.waiting >= MOST_LATE
             if self.keep:
@@ -145,10 +145,10 @@ class Agent(asyncio.DatagramProtocol):
             task.add_done_callback(self.tasks.discard)
 
     def error_received(self, fault: Exception) -> None:
-        """A reply is lost, as where the client has gone."""
+        """A reply is lost, as when the client has gone."""
 
     async def answer(self, data: bytes, client: tuple[Any, ...]) -> None:
-        """Answers a datagram where the cabinet does."""
+        """Answers a datagram if the cabinet does."""
         manager = (client[0], client[1])
         reply = await self.asked(self.cabinet, data, manager)
         if reply is None:
@@ -167,7 +167,7 @@ class Agent(asyncio.DatagramProtocol):
 async def listening(
     sockets: list[socket.socket], asked: Asked, wire: Wire | None = None
 ) -> list[asyncio.BaseTransport]:
-    """Lets the agent of each cabinet answer at its socket."""
+    """Makes the agent of each cabinet answer at its socket."""
     loop = asyncio.get_running_loop()
     made = [
         await loop.create_datagram_endpoint(functools.partial(Agent, number, asked, wire), sock=sock.dup())

@@ -1,6 +1,6 @@
-"""Records of a street: the trace of each session, and its requests, by which the street can be had again.
+"""Records of a street: the trace of each session, and its requests, with which the street can be replayed.
 
-The trace stands at the named path when the session is over, the requests beside it while it runs. Reads are left out
+The trace is at the named path when the session is over, the requests are next to it while it runs. Reads are left out
 of both, since they change nothing. Only their owner can read them.
 """
 
@@ -43,7 +43,7 @@ class Requests:
     """The file of the requests of a session. It holds whole lines at every time, those up to the last ticks."""
 
     def __init__(self, path: pathlib.Path) -> None:
-        """Makes the file; one that is there gets the same name with ~ at its end. A link is not followed."""
+        """Makes the file; an existing one is renamed with ~ at the end of its name. A link is not followed."""
         self.path = path
         if path.is_dir():
             raise IsADirectoryError(errno.EISDIR, "Is a directory", str(path))
@@ -60,7 +60,7 @@ class Requests:
             self.write()
 
     def write(self) -> None:
-        """Writes the lines that wait; where they can't be written whole none of them stays."""
+        """Writes the lines that wait; if they can't be written whole, none of them stays."""
         text, self.waiting = self.waiting, b""
         left = text
         try:

@@ -1,4 +1,4 @@
-"""A record that happens again: its requests are asked once more, by the clock or at once."""
+"""The replay of a record: its requests are asked again, in time with the clock or at once."""
 
 import asyncio
 from collections.abc import Coroutine
@@ -21,7 +21,7 @@ class Replay:
         self.under_way: list[asyncio.Task[Any]] = []
 
     async def play(self) -> None:
-        """Asks all, or those until the street is told to end."""
+        """Asks all, or those until the street is to end."""
         for request in self.requests:
             if self.street.ended.is_set() or self.street.session.is_over:
                 break
@@ -43,7 +43,7 @@ class Replay:
         self.under_way = []
 
     async def ticks(self, count: int) -> None:
-        """Takes ticks as they are due."""
+        """Takes ticks as they become pending."""
         if self.pace is None:
             await self.give(self.street.session.take(count))
             return

@@ -1,7 +1,7 @@
 """A session of the program (`streettools.shared.session`), for callers that ask at the same time.
 
-Requests go out in the order in which they are asked, and answers come in the same order. So many are without answer at
-once as a pipe holds: neither side waits for the other then.
+Requests go out in the order in which they are asked, and answers come in the same order. A pipe can hold all that are
+without answer at once, so that neither side waits for the other.
 """
 
 import asyncio
@@ -16,10 +16,10 @@ from ..shared.session import PIECE, SECONDS, Answer, Answers, Rounds, scenario_l
 MOST_OF_A_ROUND = 90_000
 """How many inputs and messages may be asked in a round before it is ended. The program takes 100,000."""
 MOST = 16
-"""How many requests may be without answer at once. A request has at most 2,962 octets, and a pipe holds 65,536."""
+"""How many requests may be without answer at once. A request has at most 2,962 bytes, and a pipe holds 65,536."""
 
 Heard = Callable[[bytes | None, Answer], None]
-"""Is told each request with its answer; None stands for the scenario and for the end of input."""
+"""Is called with each request and its answer; None means the scenario, or the end of input."""
 
 
 def frame(cabinet: int, octets: bytes, stream: str = "priority") -> bytes:
@@ -28,7 +28,7 @@ def frame(cabinet: int, octets: bytes, stream: str = "priority") -> bytes:
 
 
 def reply_in(lines: Answer) -> bytes | None:
-    """Returns the reply in the answer to such a request, None where the cabinet is silent."""
+    """Returns the reply in the answer to such a request, None if the cabinet is silent."""
     digits = lines[-1].rsplit(b" ", 1)[1]
     return None if lines[-1][:1] == b"?" or digits == b"-" else bytes.fromhex(digits.decode())
 
@@ -153,8 +153,8 @@ class Session:
             count -= now
 
     async def read(self) -> None:
-        """Gives each answer to the request that waits for it, until the program ends. A fault of one who hears of an
-        answer ends the program, and is raised; no request waits any longer then."""
+        """Gives each answer to the request that waits for it, until the program ends. A fault of a hearer of an answer
+        ends the program, and is raised; then no request waits any longer."""
         answers, watch = Answers(), asyncio.create_task(self.watch())
         try:
             while octets := await self.answers.read(PIECE):
@@ -187,7 +187,7 @@ class Session:
             end_group(self.process.pid)
 
     def give_up(self, asked: "collections.deque[Asked]") -> None:
-        """Says of requests that the session is over."""
+        """Fails the requests, since the session is over."""
         while asked:
             answer = asked.popleft().answer
             if not answer.done():

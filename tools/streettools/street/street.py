@@ -1,7 +1,7 @@
-"""The street: a session that goes on by a pace, what comes to it, and who hears of it.
+"""The street: a session that advances by a pace, what it receives, and its hearers.
 
-Where a session is over, a new one begins with start-up: after the last round that a scenario may have, and where a
-record is full.
+When a session is over, a new one begins with start-up: after the last round that a scenario may have, and when a record
+is full.
 """
 
 import asyncio
@@ -39,27 +39,27 @@ def rounds_for(scenario: dict[str, Any]) -> int:
 
 
 class Hearer:
-    """Hears what a street is told and answers, and may bring inputs. A record and a panel are hearers."""
+    """Hears what a street receives and answers, and may bring inputs. A record and a panel are hearers."""
 
     called = "what hears of the street"
     """What a fault is said to be in."""
     stride = 600
-    """How many ticks may be taken at once before it is asked for inputs."""
+    """How many ticks may be taken at once before inputs are asked for."""
 
     def began(self, scenario: dict[str, Any]) -> None:
         """A session begins."""
 
     def heard(self, request: bytes | None, answer: Answer) -> None:
-        """A request was answered; none stands for the scenario, and for the end of input."""
+        """A request was answered; None means the scenario, or the end of input."""
 
     def ended(self, died: Died | None) -> None:
         """The session is over, or its program died."""
 
     def ended_round(self, ticks: int) -> None:
-        """A round was ended by so many ticks, since it was full of messages."""
+        """A round was ended, which took `ticks` ticks, since it was full of messages."""
 
     def due_inputs(self, ticks: int) -> list[bytes]:
-        """Returns the inputs that are due when so many ticks were taken, as requests."""
+        """Returns the inputs that are pending when `ticks` ticks were taken, as requests."""
         return []
 
     def is_full(self) -> bool:
@@ -120,7 +120,7 @@ class Street:
         return given.encode()
 
     def heard(self, request: bytes | None, answer: Answer) -> None:
-        """Lets all hear of an answer; a fault of one of them names it."""
+        """Gives an answer to all hearers; a fault of one of them names it."""
         self.inputs.heard(request, answer)
         self.downloads.heard(request, answer)
         self.clocks.heard(request, answer)
@@ -129,7 +129,7 @@ class Street:
                 hearer.heard(request, answer)
 
     async def message(self, cabinet: int, octets: bytes, stream: str = "priority") -> bytes | None:
-        """Returns a cabinet's reply to a message; None where it is silent, or where the street begins anew."""
+        """Returns a cabinet's reply to a message; None if it doesn't answer, or if the street begins a new session."""
         if len(octets) > LONGEST:
             return None
         self.make_room()
@@ -139,7 +139,7 @@ class Street:
             return None
 
     async def messages(self, cabinet: int, several: list[bytes]) -> list[bytes | None]:
-        """Returns a cabinet's replies to messages, between which nothing else comes to it."""
+        """Returns a cabinet's replies to messages, between which it receives nothing else."""
         try:
             self.session.in_round += len(several)
             under_way = [self.session.send(it, it) for it in (frame(cabinet, octets) for octets in several)]
@@ -148,8 +148,8 @@ class Street:
             return [None] * len(several)
 
     async def datagram(self, cabinet: int, octets: bytes, manager: Manager = NOBODY) -> bytes | None:
-        """Returns a cabinet's reply to a datagram, which comes behind the ticks that are due. Where time goes on by
-        messages it does so behind the reply, and the next message waits."""
+        """Returns a cabinet's reply to a datagram, which comes after the pending ticks. If messages advance time, it
+        advances after the reply, and the next message waits."""
         if self.changing is not None:
             await self.gate()
         if not self.after_message:
@@ -160,8 +160,8 @@ class Street:
 
     @contextlib.asynccontextmanager
     async def turn(self) -> AsyncIterator[None]:
-        """The turn of one datagram, whatever is asked of the cabinets for it: behind the ticks that are due; those
-        that a message takes go by at its end."""
+        """The turn of one datagram, whatever is asked of the cabinets for it. It begins after the pending ticks; the
+        ticks that a message takes are taken at its end."""
         await self.gate()
         self.turns += 1
         try:
@@ -176,8 +176,8 @@ class Street:
             self.turns -= 1
 
     def make_room(self) -> None:
-        """Ends a round that is almost full, as where time stands and messages come: the program keeps them until their
-        round is over."""
+        """Ends a round that is almost full, as when time is stopped and messages arrive: the program keeps them until
+        their round is over."""
         if ticks := self.session.make_room():
             for hearer in self.hearers:
                 hearer.ended_round(ticks)
@@ -192,7 +192,7 @@ class Street:
             return False
 
     async def live(self) -> None:
-        """Lets time go on, until the street is told to end; a program that dies is raised, and so is a fault."""
+        """Advances time until the street is to end; raises the fault that ended it, as when the program crashes."""
         while not self.ended.is_set():
             await self.take(self.pace.due())
             if self.session.is_over:
@@ -222,14 +222,14 @@ class Street:
             count -= now
 
     def ticks_left(self) -> int:
-        """Returns how many ticks are left until the session changes: some before its last one, so that there is time
-        to read what is carried over. A session with which the street ends doesn't change."""
+        """Returns how many ticks are left until the session changes: that is some ticks before its last one, which
+        leaves time to read what is carried over. A session with which the street ends doesn't change."""
         total: int = self.scenario["rounds"] * self.scenario["ticks"]
         return MOST_TICKS if self.stops_at_end else max(0, total - min(total // 4, SPARE) - self.session.taken)
 
     async def change(self) -> None:
-        """Ends a session, so that the next one goes on with what the cabinets have; messages wait meanwhile. Where that
-        can't be read the next one begins as the first did."""
+        """Ends a session, so that the next one continues with what the cabinets have; messages wait meanwhile. If that
+        can't be read, the next one begins as the first did."""
         self.changing = asyncio.get_running_loop().create_future()
         while self.turns:
             await asyncio.sleep(0.001)
@@ -253,7 +253,7 @@ class Street:
             pass
 
     def wake(self) -> None:
-        """Lets what is due now be done at once."""
+        """Lets pending work be done at once."""
         self.woken.set()
 
     def end(self) -> None:
@@ -262,12 +262,12 @@ class Street:
         self.wake()
 
     def fail(self, fault: Exception) -> None:
-        """Lets the street end with a fault, the first one if there are several."""
+        """Ends the street with a fault, the first one if there are several."""
         self.fault = self.fault or fault
         self.end()
 
     async def renewed(self) -> bool:
-        """Begins a new session where one is over, except where the street ends with it; returns whether it does."""
+        """Begins a new session if one is over, unless the street ends with it; returns whether it does."""
         await self.close()
         if self.stops_at_end:
             return False
@@ -280,8 +280,8 @@ class Street:
         return True
 
     async def close(self) -> None:
-        """Ends the session, if that wasn't done, and lets all hear of it, also where one of them fails; then the first
-        fault is raised, or the death of the program."""
+        """Ends the session, if that wasn't done, and reports it to all hearers, even if one of them fails; then raises
+        the first fault, or the program's crash."""
         if self.closed is self.session:
             return
         self.closed = self.session
@@ -311,7 +311,7 @@ async def fault_of(done: Awaitable[None]) -> Exception | None:
 
 @contextlib.contextmanager
 def failing(hearer: Hearer) -> Iterator[None]:
-    """Lets a fault of a hearer that names no file name the hearer."""
+    """Makes a fault of a hearer that names no file name the hearer."""
     try:
         yield
     except (OSError, Fault):

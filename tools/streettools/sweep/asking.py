@@ -8,7 +8,8 @@ MANY = 100_000
 
 
 def sure(count: int, yes: bool) -> None:
-    """Returns where so many runs are wanted; on a terminal it asks, elsewhere `--yes` has to say so."""
+    """Returns if a large number of runs is wanted: on a terminal it asks, elsewhere `--yes` is required. Raises Fault
+    if it isn't."""
     if count <= MANY or yes:
         return
     if not (sys.stdin and sys.stdin.isatty()):

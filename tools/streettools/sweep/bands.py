@@ -1,4 +1,4 @@
-"""Through bands of a street: those of the plan, as the program tells, and those that came out in the trace."""
+"""Progression bands of a street: those of the plan, as the program reports them, and those that the trace shows."""
 
 import functools
 import json
@@ -16,8 +16,8 @@ ASKED = ("version", "rounds", "ticks", "cabinets")
 
 @functools.lru_cache(maxsize=1024)
 def asked(program: Path, question: str, seconds: float) -> tuple[int | None, int | None]:
-    """Returns the widths of the greatest bands of a plan, outbound and inbound: 0 where there is none, None where
-    none can be asked for."""
+    """Returns the widths of the widest bands of a plan, outbound and inbound: 0 if there isn't one, None if the program
+    can't say."""
     answer = ran(program, "band", given=question.encode(), seconds=seconds)
     found = read_bands(answer.out.decode(errors="replace")) if answer.status == 0 else None
     outbound, inbound = (it.width if it else 0 for it in found) if found else (None, None)
@@ -67,7 +67,7 @@ class StreetTally:
         self.greens = {number: Greens(cabinets[number], street.pattern) for number in numbers}
 
     def close(self, last: int) -> StreetCounts:
-        """Returns the bands that came out: the spans of time at which a vehicle may start so as to meet green in
+        """Returns the bands that the trace shows: the spans of time at which a vehicle may start so as to meet green in
         each cabinet."""
         ways = delays_of(self.street.travel)
         reached = ways[0]

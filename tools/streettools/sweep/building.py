@@ -21,14 +21,13 @@ from .values import Option
 from .variants import Variant
 
 SHARED = ("inputs", "loads", "priority", "frames", "faults")
-"""Lists of a scenario that are long, and are copied only where a path leads into them."""
+"""Lists of a scenario that are long, and are copied only if a path leads into them."""
 
 
 @dataclass(frozen=True)
 class Built:
-    """A variant that was made: its scenario as text and as a value, the street of its bands, the inputs that were
-    drawn, which aren't in the value (those that stand there come before them), and who comes where the study has
-    volumes."""
+    """A variant that was made: its scenario as text and as a value, the street of its bands, the generated inputs,
+    which aren't in the value (those that are there come before them), and the traffic if the study has volumes."""
 
     text: bytes
     scenario: dict[str, Any]
@@ -37,7 +36,8 @@ class Built:
     queued: Queued | None = None
 
     def name(self) -> str:
-        """Returns what tells this scenario from others: the first 16 digits of the SHA-256 of its text."""
+        """Returns the name that distinguishes this scenario from others: the first 16 digits of the SHA-256 of its
+        text."""
         return hashlib.sha256(self.text).hexdigest()[:16]
 
     def streams(self) -> list[Stream]:
@@ -75,14 +75,14 @@ class Builder:
         return parsed(self.asked(["generate", *given], b""), "generate")
 
     def asked(self, words: list[str], text: bytes) -> bytes:
-        """Returns what the program answers to a base that it has to make first."""
+        """Returns the program's answer for a base that it has to make first."""
         answer = ran(self.program, *words, given=text)
         if answer.status:
             raise Fault(f"{' '.join(words)}: {answer.said}")
         return answer.out
 
     def document(self, variant: Variant) -> dict[str, Any]:
-        """Returns the scenario with what the variant puts, and the study's tables beside it."""
+        """Returns the scenario with what the variant puts, and the study's tables next to it."""
         other = next((it.scenario for it in variant.values if isinstance(it, Option) and it.scenario), None)
         seeded = variant.seed if self.study.base.kind is BaseKind.GENERATE else None
         base = self.base(other, None if other else seeded)
@@ -121,7 +121,7 @@ class Builder:
         return Built(f'{short},"inputs":[{words}]}}'.encode(), scenario, street, found)
 
     def fitted(self, came: Queued, variant: Variant) -> Queued:
-        """Returns who comes, with what the timing sheet of a variant has said already."""
+        """Returns the traffic, with what the timing sheet of a variant has said already."""
         other = next((it.scenario for it in variant.values if isinstance(it, Option) and it.scenario), None)
         facts = facts_name(other or self.study.base.file or "")
         if facts is None:

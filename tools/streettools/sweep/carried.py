@@ -28,12 +28,12 @@ class Parcel:
         self.work: Any = None
 
     def setup(self, worker: Any) -> None:
-        """Takes up the sweep on a worker of Dask."""
+        """Prepares the sweep on a worker of Dask."""
         self.write(pathlib.Path(worker.local_directory) / self.name)
         self.start()
 
     def write(self, folder: pathlib.Path) -> None:
-        """Writes the tools into a folder that this makes, under a name of this sweep alone."""
+        """Writes the tools into a folder that this makes, under a name that only this sweep has."""
         self.folder = folder
         folder.mkdir(mode=0o700)
         for path, text in self.modules.items():
@@ -73,7 +73,7 @@ class Parcel:
 
 
 def rows(name: str, indexes: list[int]) -> Any:
-    """Returns what comes of some variants, on the worker of Dask that this runs on."""
+    """Returns the results of some variants, on the worker of Dask that this runs on."""
     from distributed import get_worker
 
     plugins: dict[str, Any] = get_worker().plugins

@@ -16,7 +16,7 @@ from .values import Kind, Option
 ENABLED = 21
 """The column of the phase table that has whether a phase is enabled."""
 LOOKED_AT = 10_000
-"""So many values of a parameter are looked at."""
+"""How many values of a parameter are looked at."""
 
 
 def values_of(parameter: Parameter) -> Iterator[tuple[Put, Any]]:

@@ -1,4 +1,4 @@
-"""Workers on other machines: a cluster of Dask, which one comes in to only with a certificate."""
+"""Workers on other machines: a cluster of Dask, whose members need a certificate."""
 
 import contextlib
 import importlib
@@ -16,7 +16,7 @@ from .crew import Crew, Lost, Rows
 
 PACKAGES = "python3-dask python3-distributed python3-cryptography"
 ANSWER = 15
-"""So many seconds a scheduler has to answer."""
+"""How many seconds a scheduler has to answer."""
 SETTINGS = {
     "distributed.comm.timeouts.connect": "60s",
     "distributed.comm.timeouts.tcp": "120s",
@@ -34,7 +34,7 @@ def distributed() -> Any:
 
 @dataclass(frozen=True)
 class Papers:
-    """The files by which both ends of each connection know each other: the certificate of who signs, and the own
+    """The files by which both ends of each connection know each other: the certificate of the signer, and the own
     certificate with its key."""
 
     authority: Path
@@ -42,7 +42,7 @@ class Papers:
     key: Path
 
     def security(self) -> Any:
-        """Returns what Dask makes of them."""
+        """Returns Dask's own form of these files."""
         for file in (self.authority, self.certificate, self.key):
             if not file.is_file():
                 raise Fault(f"{file}: no such file", Status.FILE)
@@ -107,7 +107,7 @@ class Dask(Crew):
         raise Fault(f"a worker failed: {type(fault).__name__}: {fault}", Status.FILE)
 
     def gone(self) -> Fault:
-        """Returns what is said if the scheduler answers no more."""
+        """Returns what is printed if the scheduler no longer answers."""
         words = f"the scheduler at {self.address} is gone; finished runs are kept, and --resume continues"
         return Fault(words, Status.FILE)
 

@@ -11,7 +11,7 @@ from .carried import Parcel
 
 Rows = list[list[Any]]
 TRIES = 4
-"""So many workers may die with the same runs before these are taken for the cause."""
+"""How many workers may die with the same runs before these are taken for the cause."""
 
 
 class Lost(Exception):
@@ -28,7 +28,7 @@ class Crew(abc.ABC):
 
     def __init__(self) -> None:
         self.name = f"arterial_sweep_{secrets.token_hex(6)}"
-        """Under which the tools stand with the workers."""
+        """The name under which workers keep the tools."""
 
     def carry(self, task: dict[str, Any], modules: dict[str, str], program: Path) -> None:
         """Brings the tools, the study and the program to the workers, also to those that come later."""
@@ -38,7 +38,7 @@ class Crew(abc.ABC):
 
     @abc.abstractmethod
     def take_up(self, parcel: Parcel) -> None:
-        """Lets the workers take up a sweep."""
+        """Prepares the sweep on the workers."""
 
     @abc.abstractmethod
     def count(self) -> int:
@@ -50,12 +50,12 @@ class Crew(abc.ABC):
 
     @abc.abstractmethod
     def waits(self, ticket: Any, over: Callable[[Any], object]) -> None:
-        """Lets `over` get a ticket once more when its variants are over."""
+        """Lets `over` get a ticket again when its variants are over."""
 
     @abc.abstractmethod
     def rows(self, ticket: Any) -> Rows | None:
-        """Returns what came of variants that are over, None if that was lost and comes again. `Lost` is raised if
-        workers died with them, `Fault` if a worker can't go on."""
+        """Returns the results of variants that are over, None if they were lost and the variants run again. `Lost` is
+        raised if workers died with them, `Fault` if a worker can't continue."""
 
     @abc.abstractmethod
     def end(self, tickets: list[Any]) -> None:

@@ -135,7 +135,7 @@ def sweep_over(words: argparse.Namespace) -> int:
 
 
 def tell(outcomes: Counter[str], first: dict[str, str], before: int, seconds: float, out: Path) -> None:
-    """Says what came of the runs."""
+    """Prints the results of the runs."""
     parts = [f"{outcomes[it]:,} {it}" for it in Outcome if outcomes[it]]
     kept = f", {before:,} of them before" if before else ""
     say("sweep", f"{sum(outcomes.values()):,} runs ({', '.join(parts)}{kept}) in {seconds:.1f} s: {out}")
@@ -144,7 +144,7 @@ def tell(outcomes: Counter[str], first: dict[str, str], before: int, seconds: fl
 
 
 def count(words: argparse.Namespace) -> int:
-    """Says how many runs a study makes, and of what."""
+    """Prints how many runs a study makes, and their parameters."""
     ready = opened(words).ready
     parts = [
         f"{it.name} {it.values.count() if it.values.steps is None or it.values.kind.value == 'range' else 'random'}"

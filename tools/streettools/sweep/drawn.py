@@ -50,8 +50,7 @@ def each(value: Any) -> list[Any]:
 
 
 def arrivals(draw: random.Random, per_hour: float, seconds: float) -> list[float]:
-    """Returns the seconds at which something comes that comes by chance, so many times an hour on average (a Poisson
-    process)."""
+    """Returns the seconds of random arrivals, by their number an hour on average (a Poisson process)."""
     found: list[float] = []
     if per_hour <= 0:
         return found
@@ -62,7 +61,7 @@ def arrivals(draw: random.Random, per_hour: float, seconds: float) -> list[float
 
 
 def vehicles(draw: random.Random, per_hour: float, occupied: int, rounds: int, seconds: float) -> list[int]:
-    """Returns the rounds at which a detector goes on and off in turn. Vehicles that come while it is on keep it on."""
+    """Returns the rounds at which a detector turns on and off in turn. Vehicles that come while it is on keep it on."""
     found: list[int] = []
     off = 0
     for at in arrivals(draw, per_hour, rounds * seconds):

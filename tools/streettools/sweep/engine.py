@@ -19,19 +19,20 @@ from .one_run import Outcome
 from .prepared import Keys
 
 AIM, MOST, GROWTH = 5.0, 64, 4
-"""A batch is to take so many seconds, and has at most so many runs, and so many times those of the batch before: to
-send one out and to take what came of it costs a cluster 5 to 20 ms."""
+"""The seconds that a batch should take, its maximum number of runs, and its maximum size as a multiple of the batch
+before: on a cluster it takes 5 to 20 ms to send a batch and to take its results."""
 SHARES = 2
-"""Of what is left a batch has at most this part of a worker's share, so that all workers end at about the same time."""
+"""A batch has at most a worker's share of the remaining runs divided by this, so that all workers end at about the same
+time."""
 LOOK, LOOK_ALONE = 10.0, 2.0
-"""So often it is looked how many workers there are, and whether the first has come."""
+"""The seconds between two looks at how many workers there are, and at whether the first has come."""
 PATIENCE, PATIENCE_ALONE = 5.0, 30.0
-"""So many seconds pass before it is looked whether anybody still works, and before it is told that nobody does."""
+"""The seconds after which it is checked whether a worker still works, and after which a line says that none does."""
 
 
 @contextlib.contextmanager
 def interrupts_told(tell: Callable[[], None]) -> Iterator[None]:
-    """Lets a first Ctrl-C be told, in place of breaking into whatever is done just then; a second one breaks in."""
+    """Calls `tell` at a first Ctrl-C, which doesn't interrupt what is done just then; a second one interrupts it."""
 
     def taken(*_: object) -> None:
         signal.signal(signal.SIGINT, before)
@@ -63,18 +64,18 @@ class Engine:
         """Batches that are over, and None for a Ctrl-C."""
         self.size, self.threads, self.looked = 1, 1, 0.0
         self.left = sys.maxsize
-        """So many runs haven't been sent out."""
+        """How many runs haven't been sent out."""
         self.alone: float | None = None
 
     def run(self, pending: Iterator[tuple[int, str]], left: int = sys.maxsize) -> None:
-        """Runs the variants with these numbers and keys, of which there are so many. A Ctrl-C ends it between two
-        batches, so that each one that was taken is written whole."""
+        """Runs the variants with these numbers and keys, of which there are `left`. A Ctrl-C ends it between two
+        batches, so that each batch that was taken is written whole."""
         self.left = left
         with interrupts_told(lambda: self.over.put(None)):
             self.run_all(pending)
 
     def run_all(self, pending: Iterator[tuple[int, str]]) -> None:
-        """Sends out batches and takes what comes of them, until nothing is left."""
+        """Sends out batches and takes their results, until nothing is left."""
         while True:
             self.look()
             while len(self.jobs) < 2 * self.threads + 1 and (batch := self.batch(pending)):
@@ -104,8 +105,8 @@ class Engine:
         self.jobs[self.crew.submit(indexes, self.over.put)] = job
 
     def take(self, ticket: Any, job: Job) -> None:
-        """Takes what came of a batch. One whose result was lost with its worker is waited for again; one with which
-        workers died over and over is taken apart, to find the run that does it."""
+        """Takes the results of a batch. If they were lost with a worker, the batch is waited for again; if workers died
+        with it repeatedly, it is sent run by run, to find the run that does it."""
         try:
             rows = self.crew.rows(ticket)
         except Lost:

@@ -37,7 +37,7 @@ LONGEST = 600.0
 
 
 class Begun:
-    """Stands for a study of which only the beginning of what is measured is known, in ticks."""
+    """Replaces a study, of which only the start of what is measured is known, in ticks."""
 
     def __init__(self, start: int) -> None:
         self.study = self
@@ -106,7 +106,7 @@ def traffic_of(folder: Path, start: float) -> dict[tuple[int, int], Count]:
 
 
 def measured(words: argparse.Namespace) -> tuple[list[str], list[Any]]:
-    """Returns the names and the values of what is asked for."""
+    """Returns the names and the values of the measures that are asked for."""
     asked = choice.columns_of(words.measures)
     path, program = Path(words.trace), found(words.program)
     folder = path if path.is_dir() else path.parent

@@ -1,4 +1,4 @@
-"""Workers on this machine: processes that talk with the sweep over pipes, which nobody else can open."""
+"""Workers on this machine: processes that communicate with the sweep over pipes, which no other process can open."""
 
 import contextlib
 import multiprocessing
@@ -19,7 +19,7 @@ from .carried import Parcel
 from .crew import TRIES, Crew, Lost, Rows
 
 LOOK = 0.5
-"""So often, in seconds, it is looked how much memory a worker has."""
+"""The seconds between two looks at how much memory a worker has."""
 PAGE, MIB = os.sysconf("SC_PAGE_SIZE"), 1 << 20
 PROCESSES = multiprocessing.get_context("spawn")
 
@@ -30,8 +30,8 @@ def processors() -> int:
 
 
 def share(workers: int) -> int:
-    """Returns the octets of memory that each of so many workers may have, if nothing else is said: no more together
-    than the machine has, and no more than a processor's share."""
+    """Returns the bytes of memory that each of `workers` workers may have by default: together no more than the machine
+    has, and each no more than a processor's share."""
     return os.sysconf("SC_PHYS_PAGES") * PAGE // max(workers, os.cpu_count() or 1)
 
 
@@ -40,7 +40,7 @@ class Died(Exception):
 
 
 class Unable(Exception):
-    """A worker can't take up the sweep, or go on with it, in words."""
+    """A worker can't prepare the sweep, or can't continue; the words say why."""
 
 
 def serve(pipe: Connection, parcel: Parcel) -> None:
@@ -60,7 +60,8 @@ def serve(pipe: Connection, parcel: Parcel) -> None:
 
 @contextlib.contextmanager
 def without_interrupts() -> Iterator[None]:
-    """Lets a process start that takes no Ctrl-C, nor do those that it starts: the sweep takes it, and ends them."""
+    """Makes processes that start in the block ignore Ctrl-C, as do those that they start: the sweep handles it, and
+    ends them."""
     resource_tracker.ensure_running()
     before = signal.pthread_sigmask(signal.SIG_BLOCK, [signal.SIGINT])
     try:
@@ -81,14 +82,15 @@ class Worker:
         its.close()
 
     def memory(self) -> int:
-        """Returns the octets of memory that the process has; 0 if it is gone."""
+        """Returns the bytes of memory that the process has; 0 if it is gone."""
         try:
             return int(Path(f"/proc/{self.process.pid}/statm").read_text().split()[1]) * PAGE
         except (OSError, IndexError):
             return 0
 
     def rows(self, indexes: list[int]) -> Rows:
-        """Returns what comes of some variants. One that has more memory than it may is ended, and has died."""
+        """Returns the results of some variants. If the worker has more memory than it may, it is ended, and Died is
+        raised."""
         try:
             self.pipe.send(indexes)
             while not self.pipe.poll(LOOK):
@@ -146,7 +148,7 @@ class Here(Crew):
         ticket.add_done_callback(over)
 
     def done(self, indexes: list[int]) -> Rows:
-        """Returns what a worker makes of some variants; one that dies is replaced."""
+        """Returns a worker's results of some variants; a worker that dies is replaced."""
         worker = self.idle.get()
         try:
             for _ in range(TRIES):
@@ -181,8 +183,8 @@ class Here(Crew):
 
 @contextlib.contextmanager
 def workers(count: int | None, memory: int | None) -> Iterator[Here]:
-    """Gives processes on this machine: as many as processors, unless a number is given, each with so many MiB of
-    memory at most for its Python."""
+    """Gives processes on this machine: as many as processors, unless a number is given, each with at most `memory` MiB
+    for its Python."""
     number = count or processors()
     most = memory * MIB if memory else share(number)
     with tempfile.TemporaryDirectory(prefix="arterial-sweep-", ignore_cleanup_errors=True) as folder:

@@ -1,5 +1,5 @@
-"""The file of the runs that are done, beside the table: a line for each, written as it comes. A sweep that died goes
-on from it."""
+"""The file of the runs that are done, next to the table: a line for each, written when it is done. An interrupted sweep
+continues from it."""
 
 import fcntl
 import json
@@ -31,7 +31,7 @@ class Journal:
             raise Fault(f"{path}: {fault.strerror}", Status.FILE) from None
 
     def begin(self, anew: bool) -> None:
-        """Reads what is done, and cuts off a line that was not written to its end."""
+        """Reads the runs that are done, and cuts off an incomplete last line."""
         if anew:
             self.file.truncate(0)
         end, line = 0, self.file.readline()
@@ -49,7 +49,7 @@ class Journal:
         self.end = max(end, len(HEAD))
 
     def note(self, line: bytes, place: int) -> None:
-        """Keeps where a run stands. One that failed is run again."""
+        """Keeps the place of a run in the file. One that failed is run again."""
         try:
             value = json.loads(line)
             if "key" in value and value["row"][0] != Outcome.FAILED:
@@ -82,13 +82,13 @@ class Journal:
             place += len(line)
 
     def row(self, key: str) -> list[Any]:
-        """Returns what came of a run."""
+        """Returns the results of a run."""
         self.file.seek(self.places[key])
         row: list[Any] = json.loads(self.file.readline())["row"]
         return row
 
     def close(self, remove: bool = False) -> None:
-        """Closes the file, and takes it away where it is no longer needed."""
+        """Closes the file, and removes it if it is no longer needed."""
         if remove:
             self.path.unlink(missing_ok=True)
         self.file.close()

@@ -1,4 +1,4 @@
-"""The measures that are built in: each with its unit, its definition, and how it comes from what was counted."""
+"""The measures that are built in: each with its unit, its definition, and how it is computed from the counts."""
 
 import enum
 from collections.abc import Callable, Iterable
@@ -20,7 +20,7 @@ class Scope(enum.Enum):
 
 
 class Part(enum.Enum):
-    """What of a run is followed for a measure alone: how greens end, vehicles that wait, people that wait and walk,
+    """What of a run is followed only for some measures: how greens end, vehicles that wait, people that wait and walk,
     cycles of a pattern. All else is always followed."""
 
     ENDINGS = "endings"
@@ -48,7 +48,7 @@ def summed(numbers: Iterable[float]) -> float:
 
 
 def greatest(numbers: Iterable[float]) -> float:
-    """Returns the greatest of numbers."""
+    """Returns the maximum of numbers."""
     return max(numbers)
 
 
@@ -73,7 +73,7 @@ def share(part: str, whole: str) -> Callable[[list[Any]], Value]:
 
 
 def spread(name: str, which: str, scale: int = 10) -> Callable[[list[Any]], Value]:
-    """Returns the least, the mean or the greatest of lengths; the scale makes seconds of ticks."""
+    """Returns the minimum, the mean or the maximum of lengths; the scale converts ticks to seconds."""
 
     def value(parts: list[Any]) -> Value:
         found = Spread.of(getattr(it, name) for it in parts)
@@ -88,7 +88,7 @@ def spread(name: str, which: str, scale: int = 10) -> Callable[[list[Any]], Valu
 
 
 def planned(way: int) -> Callable[[list[Any]], Value]:
-    """Returns the width of the greatest band of the plan."""
+    """Returns the width of the plan's widest band."""
     return lambda parts: None if parts[0].planned[way] is None else parts[0].planned[way] / 10
 
 

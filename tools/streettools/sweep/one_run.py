@@ -32,11 +32,11 @@ from .variants import Variant
 Traffic = dict[tuple[int, int], Count]
 """The vehicles of each cabinet and phase."""
 PAUSES = (0, 1, 5)
-"""So many seconds before each try of a run."""
+"""The seconds before each try of a run."""
 
 
 class Outcome(enum.StrEnum):
-    """What became of a run."""
+    """The outcome of a run."""
 
     DONE = "done"
     REFUSED = "refused"
@@ -45,7 +45,7 @@ class Outcome(enum.StrEnum):
 
 @dataclass(frozen=True)
 class Run:
-    """A run, as a measure of one's own is given it."""
+    """A run, as it is passed to a user's own measure."""
 
     scenario: dict[str, Any]
     trace: bytes
@@ -57,7 +57,7 @@ class Run:
 
 
 class Failed(Exception):
-    """A run came to no measures, in words."""
+    """A run gave no measures; the words say why."""
 
 
 def kept(text: bytes = b"") -> BinaryIO:
@@ -96,7 +96,7 @@ class Runner:
         self.planned = any(name in ("band_outbound", "band_inbound") for _, name in scopes)
 
     def row(self, variant: Variant) -> list[Any]:
-        """Returns what comes of a variant: outcome, words, hash of the scenario, and its measures."""
+        """Returns the results of a variant: outcome, words, hash of the scenario, and its measures."""
         blank = [None] * (len(self.columns) + len(self.own))
         name = None
         try:
@@ -122,7 +122,7 @@ class Runner:
             raise Fault(f"no scenario can be made of this variant: {type(fault).__name__}: {fault}") from None
 
     def trace(self, given: BinaryIO, trace: BinaryIO) -> str | None:
-        """Writes the trace of a scenario; returns the line with which the program refuses it, None where it doesn't."""
+        """Writes the trace of a scenario; returns the line with which the program refuses it, None if it doesn't."""
         answer = self.ran("run", given, trace)
         if answer.status == Status.REFUSED:
             return answer.said
@@ -150,7 +150,7 @@ class Runner:
             return self.measured(replace(built, scenario=queued.scenario_of(ran.trace)), trace, traffic)
 
     def checked(self, trace: BinaryIO) -> None:
-        """Has a trace checked, where that is asked for."""
+        """Has a trace checked, if that is asked for."""
         if self.check and (answer := self.ran("check", trace, subprocess.DEVNULL)).status:
             raise Failed(f"check: {answer.said}")
 
@@ -230,7 +230,7 @@ class Runner:
         return street
 
     def follow(self, trace: BinaryIO, tallies: dict[int, CabinetTally]) -> None:
-        """Lets the cabinets take what happened in a run."""
+        """Passes what happened in a run to the cabinets."""
         shown = {b"%d" % number: it.shown for number, it in tallies.items()}
         for it in trace_rows.happenings(trace):
             if isinstance(it, trace_rows.Over):

@@ -49,7 +49,7 @@ class Prepared:
     columns: tuple[Column, ...]
 
     def runner(self, check: bool, seconds: float) -> Runner:
-        """Returns what runs its variants."""
+        """Returns the runner of its variants."""
         return Runner(self.builder, self.builder.program, self.columns, self.study.own, check, seconds)
 
     def names(self) -> list[str]:
@@ -59,7 +59,7 @@ class Prepared:
         return ["run", *(it.name for it in self.study.parameters), *seed, "outcome", "words", "scenario", *measured]
 
     def line(self, index: int, row: list[Any]) -> list[Any]:
-        """Returns a line of the table: the variant, and what came of it."""
+        """Returns a line of the table: the variant, and its results."""
         variant = self.variants.at(index)
         seed = [variant.seed] if self.study.seeds else []
         return [index + 1, *variant.shown(), *seed, *row]
@@ -89,7 +89,7 @@ class Keys:
         return hash_of([self.fixed, [self.told(it) for it in variant.values], variant.seed])[:32]
 
     def told(self, value: Any) -> Any:
-        """Returns what tells a value from others; for an alternative all that it puts."""
+        """Returns a text that distinguishes a value from others; for an alternative, all that it puts."""
         if not isinstance(value, Option):
             return value
         return [value.name, repr(value.puts), hash_of(self.prepared.fetch(value.scenario)) if value.scenario else None]

@@ -16,12 +16,12 @@ from ..shared.fault import Fault
 from ..shared.given import NUMBER, Given, toml_of
 
 STEPS = (1, 2, 5, 10)
-"""Rounds may have so many ticks: a round is a step."""
+"""The ticks that a round may have: a round is a step."""
 
 
 @dataclass(frozen=True)
 class Queued:
-    """Who comes in a variant: the volumes, and the seed that draws from them."""
+    """The traffic of a variant: the volumes, and the seed that generates from them."""
 
     volumes: Volumes
     seed: int
@@ -40,7 +40,7 @@ def read(name: str, fetch: Callable[[str], bytes]) -> Volumes:
 
 
 def queued_of(table: dict[str, Any], seed: int | None, fetch: Callable[[str], bytes]) -> Queued:
-    """Returns who comes in a variant; the table's factor comes on top of that of the file."""
+    """Returns the traffic of a variant; the table's factor multiplies that of the file."""
     volumes = read(table["file"], fetch)
     return Queued(replace(volumes, factor=volumes.factor * table.get("factor", 1)), 1 if seed is None else seed)
 
@@ -56,7 +56,7 @@ class Terms:
 
 
 def run(program: Path, scenario: dict[str, Any], queued: Queued, terms: Terms) -> queue_study.Ran:
-    """Runs a variant; TimeoutError where it isn't done in time."""
+    """Runs a variant; TimeoutError if it isn't done in time."""
     seconds, step = queue_study.seconds_of(scenario, None), scenario["ticks"]
     if step not in STEPS:
         raise Fault(f"volumes go with rounds of {', '.join(map(str, STEPS))} ticks, and the scenario has {step}")

@@ -1,4 +1,4 @@
-"""What comes from the street in a run: the inputs of each phase of a cabinet, by their ticks."""
+"""The inputs from the street in a run: the inputs of each phase of a cabinet, by their ticks."""
 
 from collections.abc import Iterable, Sequence
 from dataclasses import dataclass, field
@@ -19,7 +19,7 @@ class Detector:
         return self.place > 0 and self.ons[self.place - 1] == 1
 
     def active(self) -> int:
-        """Returns the last tick at which a vehicle was near, by the inputs that were taken; 0 where none was."""
+        """Returns the last tick at which a vehicle was near, by the inputs that were taken; 0 if none was."""
         at = self.place - 1
         while at > 0 and not self.ons[at] and not self.ons[at - 1]:
             at -= 1
@@ -39,7 +39,7 @@ class Button:
 
 @dataclass(slots=True)
 class Stream:
-    """Inputs of one kind (`veh` or `ped`) that come to a phase: their rounds, and for vehicles 1 for on, 0 for off."""
+    """The inputs of one kind (`veh` or `ped`) of a phase: their rounds, and for vehicles 1 for on, 0 for off."""
 
     cabinet: int
     kind: str
@@ -84,7 +84,7 @@ def joined(streams: list[Stream]) -> Stream:
 
 
 class Sensed:
-    """All that comes from the street in a run."""
+    """All inputs from the street in a run."""
 
     def __init__(self, streams: Iterable[Stream], ticks: int) -> None:
         self.ticks = ticks

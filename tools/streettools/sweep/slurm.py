@@ -44,8 +44,8 @@ def waited(job: str, file: Path) -> None:
 
 
 def papers(folder: Path) -> clusters.Papers:
-    """Makes the certificate of a cluster in a folder that is this user's alone. It signs itself: whoever has its key
-    is one of the cluster, and nobody else."""
+    """Makes the certificate of a cluster in a folder that only this user can read. It is self-signed: anyone who has
+    its key belongs to the cluster, and nobody else."""
     made = clusters.distributed().Security.temporary()
     found = clusters.Papers(folder / "certificate.pem", folder / "certificate.pem", folder / "key.pem")
     for file, text in ((found.certificate, made.tls_client_cert), (found.key, made.tls_client_key)):

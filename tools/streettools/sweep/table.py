@@ -1,4 +1,4 @@
-"""Writes the table of a sweep: CSV, or Parquet where Python's pyarrow is there. Line by line, so any number of runs
+"""Writes the table of a sweep: CSV, or Parquet if Python's pyarrow is installed. Line by line, so any number of runs
 fits into memory."""
 
 import csv
@@ -59,7 +59,7 @@ def write(path: Path, names: list[str], lines: Iterable[list[Any]]) -> None:
 
 
 def chunks(lines: Iterable[Line]) -> Iterator[list[Line]]:
-    """Yields lines by so many; at least once."""
+    """Yields lines in lists of at most `CHUNK`; at least one list."""
     found: list[Line] = []
     for line in lines:
         found.append(line)
@@ -70,7 +70,7 @@ def chunks(lines: Iterable[Line]) -> Iterator[list[Line]]:
 
 
 def numeric_columns(count: int, lines: Iterable[Line]) -> list[bool]:
-    """Returns which columns of so many have numbers, and nothing else, in all lines."""
+    """Returns for each of `count` columns whether it has numbers, and nothing else, in all lines."""
     seen, other = [False] * count, [False] * count
     for line in lines:
         for place, it in enumerate(line):

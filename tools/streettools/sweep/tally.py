@@ -1,7 +1,7 @@
 """Counts what happened in a run: each green, each wait, each local zero, each download, each note.
 
-Only what is asked for is counted. Inputs are taken phase by phase, where something of the phase changes: a call begins
-and ends by them alone while its signal stays the same.
+Only what is asked for is counted. Inputs are taken phase by phase, when something of the phase changes: while its
+signal stays the same, a call begins and ends only by them.
 """
 
 import functools
@@ -25,7 +25,7 @@ PHASES = tuple(ALL)
 
 @functools.lru_cache(maxsize=4096)
 def turned(before: bytes, after: bytes, letter: bytes) -> tuple[tuple[int, ...], tuple[int, ...]]:
-    """Returns the phases that come to show a letter between two frames, and those that cease to."""
+    """Returns the phases that begin to show a letter between two frames, and those that cease to."""
     shown = letter[0]
     changed = [(phase, now) for phase, was, now in zip(PHASES, before, after) if was != now and shown in (was, now)]
     return (
@@ -48,13 +48,13 @@ class PhaseTally:
         self.is_walk = self.is_lock = self.can_walk = False
 
     def follows(self, tables: Tables, phase: int) -> None:
-        """Takes over what tables say of its calls."""
+        """Takes over the settings of its calls from tables."""
         self.is_lock = not tables.option(phase, NON_LOCK)
         self.can_walk = tables.phase(phase, 2) > 0
 
     def sensed(self, until: int) -> None:
-        """Takes the vehicle inputs that come before a tick: where the phase isn't green a call begins with the first
-        that goes on; without lock memory it ends as the detector goes off."""
+        """Processes the vehicle inputs that come before a tick. If the phase isn't green, a call begins with the first
+        that turns on; without lock memory it ends as the detector turns off."""
         detector = self.detector
         first = detector.place
         detector.place = bisect_left(detector.ticks, until, first)
@@ -87,7 +87,7 @@ class PhaseTally:
         self.called = None
 
     def ends(self, tick: int, ending: str | None) -> None:
-        """Counts a green that ends; a vehicle that is still there calls anew."""
+        """Counts a green that ends; a vehicle that is still there calls again."""
         begun, self.green = self.green, None
         if begun is not None and begun >= self.start:
             self.counts.green.add(tick - begun)
@@ -138,7 +138,7 @@ class CabinetTally:
         self.failed: int | None = None
 
     def follows_tables(self) -> None:
-        """Takes over what the tables in force say of calls."""
+        """Takes over the settings of calls from the tables in force."""
         for phase, tally in self.phases.items():
             tally.follows(self.cabinet.tables, phase)
 
@@ -163,7 +163,7 @@ class CabinetTally:
         self.row = row
 
     def opens(self, row: Row, tick: int) -> None:
-        """Takes the first frame: its colours are no beginnings of what is counted."""
+        """Takes the first frame: its colours don't count as beginnings."""
         green, _ = turned(b"R" * 16, row[2], b"G")
         for phase in green:
             self.cabinet.green[phase] = tick

@@ -11,7 +11,7 @@ from ..shared.given import NUMBER, Given
 STEP = re.compile(r"([a-z_]+)|\[(\d+)\]")
 PATH = re.compile(r"[a-z_]+(\[\d+\])*(\.[a-z_]+(\[\d+\])*)*")
 PARTS = ("traffic", "line", "street", "volumes")
-"""The tables of a study, beside the scenario, that a path may begin with."""
+"""The tables of a study, next to the scenario, that a path may begin with."""
 CELLS = {"phase": 2, "sequence": 2, "unit": 1, "pattern": 2, "split": 3, "preempt": 2}
 """How many numbers a cell has between the name of its table and its value."""
 OPTIONAL = {
@@ -22,12 +22,12 @@ OPTIONAL = {
     "line": ("lose",),
     "volumes": ("factor",),
 }
-"""Names that may be put though they aren't there: where they are absent the scenario has a value for them."""
+"""Names that may be put though they aren't there: if they are absent, the scenario has a default for them."""
 
 
 @dataclass(frozen=True)
 class Put:
-    """A place, and what comes there: plus + times * value, where the value is a number."""
+    """A place, and its new value: plus + times * value, if the value is a number."""
 
     path: str | None
     cell: tuple[Any, ...] | None
@@ -40,7 +40,7 @@ class Put:
         return self.path or f"the cell {list(self.cell or ())}"
 
     def value(self, value: Any) -> Any:
-        """Returns what comes to the place."""
+        """Returns the value that the place gets."""
         is_plain = self.times == 1 and self.plus == 0
         if is_plain or not isinstance(value, NUMBER) or isinstance(value, bool):
             return value
@@ -48,7 +48,7 @@ class Put:
         return result if isinstance(result, int) else round(result, 9)
 
     def put(self, document: dict[str, Any], value: Any) -> None:
-        """Puts a value into the scenario and the tables beside it."""
+        """Puts a value into the scenario and the tables next to it."""
         if self.path is not None:
             put_at(document, self.path, self.value(value))
             return
@@ -85,7 +85,7 @@ def put_at(document: dict[str, Any], path: str, value: Any) -> None:
 
 
 def followed(there: Any, step: str | int, path: str) -> Any:
-    """Returns what stands a step further on."""
+    """Returns the value a step further on."""
     fits = isinstance(there, list) if isinstance(step, int) else isinstance(there, dict)
     if not fits or not (step < len(there) if isinstance(step, int) else step in there):
         raise absent(path)

@@ -11,14 +11,14 @@ from ..shared import lines
 from ..shared.trace_records import Frame, Load, Note, Round
 
 BLOCK = 1 << 20
-"""So many bytes are read at once."""
+"""How many bytes are read at once."""
 NUMBER = rb"(0|[1-9][0-9]{0,8})"
 LAST = rb"(?![^\n])"
 FRAME = rb"\nF %s %s ([GYCR]{16}) ([WFD]{16}) ([A-Z0-9a-z]+) %s %s %s" % ((NUMBER,) * 5)
 FRAMES = re.compile(FRAME + LAST)
 ROWS = re.compile(rb"(?:%s|\n([RLM][^\n]*))" % FRAME + LAST)
-"""Frames, and beside them the lines that tell rounds, ends of downloads and notes. J lines tell nothing new here, and A
-lines repeat what was asked."""
+"""Frames, and the lines of rounds, ends of downloads and notes. J lines have nothing new here, and A lines repeat what
+was asked."""
 
 Row = tuple[bytes, bytes, bytes, bytes, bytes, bytes, bytes, bytes]
 """A frame as it is written: cabinet, tick, colours, pedestrian signals, mode, counter, target, version."""
@@ -41,7 +41,7 @@ class Over(NamedTuple):
 
 
 def frame_of(row: Row) -> Frame:
-    """Returns a frame that was read; ValueError where its mode is none."""
+    """Returns a frame that was read; raises ValueError if its mode isn't valid."""
     cabinet, tick, vehicles, pedestrians, mode, counter, target, version = row
     return Frame(
         int(cabinet),
@@ -56,7 +56,7 @@ def frame_of(row: Row) -> Frame:
 
 
 def blocks(stream: BinaryIO) -> Iterator[bytes]:
-    """Yields a trace behind its first line: each block begins with the end of a line, and ends before one."""
+    """Yields a trace after its first line: each block begins with the end of a line, and ends before one."""
     rest = b""
     while part := stream.read(BLOCK):
         if not rest:
@@ -72,7 +72,7 @@ def blocks(stream: BinaryIO) -> Iterator[bytes]:
 
 
 def happenings(stream: BinaryIO) -> Iterator[Row | Said | Over]:
-    """Yields what happened, in the order of the trace; ValueError where a line is none of a trace."""
+    """Yields what happened, in the order of the trace; raises ValueError if a line isn't one of a trace."""
     number = 0
     for block in blocks(stream):
         if b"\nL" in block or b"\nM" in block:
@@ -88,7 +88,7 @@ def happenings(stream: BinaryIO) -> Iterator[Row | Said | Over]:
 
 
 def round_at(block: bytes, at: int) -> int:
-    """Returns the number of the round whose line stands at a place."""
+    """Returns the number of the round whose line is at a place."""
     end = block.find(b"\n", at + 1)
     return lines.round_of((block[at + 1 :] if end < 0 else block[at + 1 : end]) + b"\n").number
 

@@ -16,5 +16,5 @@ class Work:
         self.runner = self.prepared.runner(task["check"], task["seconds"])
 
     def rows(self, indexes: Iterable[int]) -> list[list[Any]]:
-        """Returns what comes of some variants."""
+        """Returns the results of some variants."""
         return [self.runner.row(self.prepared.variants.at(index)) for index in indexes]

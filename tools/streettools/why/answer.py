@@ -11,7 +11,7 @@ from .sentences import COMINGS, ENDINGS, Sentences, called_by, rule
 from .story import WORDS, Spell, Story
 
 MOST_LINES = 24
-"""So many lines of a wait are shown in words; JSON has all."""
+"""How many lines of a wait are shown in words; JSON has all."""
 
 
 def length(ticks: int) -> str:

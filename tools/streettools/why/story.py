@@ -13,8 +13,8 @@ from .reasons import Reason, Reasons, called_by, is_called, reasons
 from .replay import Replay, Shown, Text
 
 HORIZON = 9_000
-"""A phase is watched for so many ticks (15 minutes) after the tick that is asked for, if it neither comes nor goes
-before."""
+"""A phase is watched for this number of ticks (15 minutes) after the tick that is asked for, if it neither begins nor
+ends before."""
 
 WORDS = {Colour.GREEN: "green", Colour.YELLOW: "yellow change", Colour.CLEAR: "red clearance", Colour.RED: "red"}
 
@@ -28,7 +28,7 @@ class Spell(NamedTuple):
 
 
 class Call(NamedTuple):
-    """A call: the tick from which it stands in a row, and what calls at that tick."""
+    """A call: the tick since which it has lasted, and what called at that tick."""
 
     since: int
     by: tuple[Caller, ...]
@@ -46,10 +46,10 @@ class Seen(NamedTuple):
 
 
 class Story(NamedTuple):
-    """What there is to say. `since` is the tick at which the phase began to show its colour; `call` is the call that
-    stands (of a green, that for which it came), `came` the tick at which it turned green (after the tick, if it wasn't
-    green at it), `gone` the tick at which its green ended; `how` says how it came, `ended` how its green ended; `last`
-    is the last tick that was looked at."""
+    """The facts of an answer. `since` is the tick at which the phase began to show its colour; `call` is the call that
+    lasts (of a green, the one that it served), `came` the tick at which it turned green (after the tick, if it wasn't
+    green at it), `gone` the tick at which its green ended; `how` says why it turned green, `ended` why its green ended;
+    `last` is the last tick that was looked at."""
 
     cabinet: int
     phase: int
@@ -72,7 +72,7 @@ class Story(NamedTuple):
 
     @property
     def waited(self) -> int | None:
-        """The ticks from the call to the green; None where there is no call or no green."""
+        """The ticks from the call to the green; None without a call or a green."""
         return None if self.came is None or self.call is None else self.came - self.call.since
 
     @property
@@ -104,7 +104,7 @@ class Watch:
         self.began = 0
 
     def __call__(self, at: Decided) -> None:
-        """Takes up what a tick decides."""
+        """Processes what a tick decides."""
         number = at.now.number
         if not self.first <= number <= self.last:
             return
@@ -125,11 +125,11 @@ class Watch:
         return tuple(Spell(first, until, reason) for (first, reason), until in zip(self.turns, untils))
 
     def called(self, number: int) -> Call | None:
-        """Returns the call that stands at a tick."""
+        """Returns the call that lasts at a tick."""
         return next((call for first, call in reversed(self.calls) if first <= number), None)
 
     def word(self, number: int | None) -> str:
-        """Returns how a green came or ended at a tick; nothing where that tick wasn't looked at."""
+        """Returns how a green came or ended at a tick; nothing if that tick wasn't looked at."""
         return next((it.reason.word for it in self.spells if number is not None and it.first <= number < it.until), "")
 
     def story(self, cabinet: int) -> Story:

@@ -1,4 +1,4 @@
-"""Queues over time: how many vehicles stand before each stop line of a cabinet, and when each has green."""
+"""Queues over time: how many vehicles wait before each stop line of a cabinet, and when each has green."""
 
 from typing import Any
 

@@ -11,7 +11,7 @@ from ..movements import is_of_persons
 from ..records import Movement, Study
 
 ON_GREEN, ON_RED = "#1c7ed6", "#e8590c"
-"""Who reaches the stop line on green, and who doesn't."""
+"""The colours of vehicles that reach the stop line on green, and of those that don't."""
 
 
 class Turn(NamedTuple):
@@ -22,7 +22,7 @@ class Turn(NamedTuple):
 
 
 class View(NamedTuple):
-    """What is looked at: the first and the last second, the time of day at which the run began, None where the time
+    """What is looked at: the first and the last second, the time of day at which the run began, None if the time
     since then is shown, and what things are called."""
 
     start: float
@@ -103,7 +103,7 @@ def label(axes: Any, text: str) -> None:
 
 
 def room(labels: list[str]) -> list[str]:
-    """Returns labels as wide as they are with the numbers of the axis beside them."""
+    """Returns labels widened by the numbers of the axis next to them."""
     return ["\n".join(f"{line}{' ' * 8}" for line in it.split("\n")) for it in labels]
 
 

@@ -1,4 +1,4 @@
-"""What volumes must keep to fit a scenario: each movement has a phase that is there, each phase has somebody."""
+"""What volumes must keep to fit a scenario: each movement has an existing phase, each phase has traffic."""
 
 import difflib
 from typing import Any
@@ -20,7 +20,7 @@ def tables_of(scenario: dict[str, Any]) -> dict[int, Tables]:
 
 
 def check(volumes: Volumes, scenario: dict[str, Any], seconds: float) -> None:
-    """Refuses volumes that don't fit a scenario, or that don't cover a run of so many seconds."""
+    """Refuses volumes that don't fit a scenario, or that don't cover a run of `seconds`."""
     tables = tables_of(scenario)
     cabinets_are_there(volumes, tables)
     phases_are_served(volumes, tables)
@@ -66,12 +66,12 @@ def all_of(volumes: Volumes) -> tuple[Flow | Crossing, ...]:
 
 
 def told(it: Flow | Crossing) -> str:
-    """Returns how a movement or a crossing is told in a message."""
+    """Returns how a message names a movement or a crossing."""
     return f"{'crossing' if isinstance(it, Crossing) else it.name} of cabinet {it.cabinet}"
 
 
 def phases_are_served(volumes: Volumes, tables: dict[int, Tables]) -> None:
-    """Refuses a phase that serves nobody."""
+    """Refuses a phase without traffic."""
     served = {(it.cabinet, it.phase) for it in all_of(volumes)} | volumes.idle
     for cabinet, table in tables.items():
         for phase in table.enabled():
@@ -83,7 +83,7 @@ def phases_are_served(volumes: Volumes, tables: dict[int, Tables]) -> None:
 
 
 def names_are_known(volumes: Volumes) -> None:
-    """Refuses equal names, approaches and profiles that aren't there, and approaches that aren't told apart."""
+    """Refuses duplicate names, approaches and profiles that don't exist, and ambiguous approaches."""
     names: set[tuple[int, str]] = set()
     approaches: dict[tuple[int, str], list[Flow]] = {}
     for it in volumes.flows:
@@ -115,7 +115,7 @@ def names_are_known(volumes: Volumes) -> None:
 
 
 def profiles_cover(volumes: Volumes, scenario: dict[str, Any], seconds: float) -> None:
-    """Refuses a profile that says nothing of some time of the run."""
+    """Refuses a profile that doesn't cover some time of the run."""
     used = {it.profile for it in all_of(volumes) if it.profile is not None}
     start = starts_at(scenario)
     for name in sorted(used):
@@ -128,12 +128,12 @@ def profiles_cover(volumes: Volumes, scenario: dict[str, Any], seconds: float) -
 
 
 def starts_at(scenario: dict[str, Any]) -> float:
-    """Returns the time of day at which a run begins, by the clock of its first cabinet."""
+    """Returns the time of day at which a run begins: the clock of its first cabinet, in seconds."""
     return scenario["cabinets"][0].get("clock", 0) / 10
 
 
 def capacities_hold(volumes: Volumes) -> None:
-    """Refuses a volume that can't come with the least headway, by the greatest factor of its profile."""
+    """Refuses a volume that is too large for the minimum headway at the largest factor of its profile."""
     for it in volumes.flows:
         steps = volumes.profiles[it.profile].steps if it.profile else ((0.0, 1.0),)
         most = it.volume * volumes.factor * max(factor for _, factor in steps)

@@ -64,7 +64,7 @@ def parser() -> argparse.ArgumentParser:
 
 
 def asked_of(words: argparse.Namespace, seconds: float) -> Asked:
-    """Returns what the options ask of a run."""
+    """Returns the settings of a run by the options."""
     step = STEPS[words.step]
     if round(seconds * 10) % step:
         raise Fault(f"{seconds:g} s is not a whole number of steps of {words.step} s")
@@ -74,7 +74,7 @@ def asked_of(words: argparse.Namespace, seconds: float) -> Asked:
 
 
 def maker_of(path: pathlib.Path | None, scenario: dict[str, Any]) -> queue_study.Makes | None:
-    """Returns what makes a policy of a street, None where there is no policy."""
+    """Returns the function that makes a policy of a street, None if a policy isn't given."""
     if path is None:
         return None
     from .. import policies
@@ -84,7 +84,7 @@ def maker_of(path: pathlib.Path | None, scenario: dict[str, Any]) -> queue_study
 
 
 def ran(words: argparse.Namespace) -> tuple[Ran, Street]:
-    """Runs what the words ask for; returns what came of it, and the street."""
+    """Runs what the words ask for; returns the result of the run, and the street."""
     from ...shared.progress import bar
 
     volumes, street = read_volumes(words.volumes), read_street(words.scenario)

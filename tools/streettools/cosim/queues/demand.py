@@ -1,7 +1,8 @@
-"""Who comes: each vehicle with its way through the street and its times of travel, each person, all drawn from a seed.
+"""The traffic: each vehicle with its route through the street and its times of travel, each person, all generated from
+a seed.
 
-All chance is in here. What comes doesn't depend on what the signals show, so a seed gives the same traffic under every
-plan, and runs can be compared in pairs.
+All that is random is in here. The traffic doesn't depend on what the signals show, so a seed gives the same traffic
+under every plan, and runs can be compared in pairs.
 """
 
 import math
@@ -37,7 +38,7 @@ class Vehicle(NamedTuple):
 
 
 class Person(NamedTuple):
-    """A person who comes to a crossing, by its place in the list of all, at a second."""
+    """A person who arrives at a crossing (by its place in the list of all) at a second."""
 
     at: float
     crossing: int
@@ -45,14 +46,14 @@ class Person(NamedTuple):
 
 @dataclass(frozen=True)
 class Demand:
-    """All who come, in the order of their times."""
+    """All vehicles and persons, in the order of their times."""
 
     vehicles: tuple[Vehicle, ...]
     persons: tuple[Person, ...]
 
 
 def arrivals(draw: random.Random, rates: Rates, least: float) -> Iterator[float]:
-    """Yields the seconds at which vehicles come by chance: gaps are exponential beyond a least headway (a shifted
+    """Yields the seconds at which vehicles arrive at random: gaps are exponential beyond a minimum headway (a shifted
     negative exponential; with 0 a Poisson process), by a rate that may change."""
     at, left = 0.0, -math.log(1.0 - draw.random())
     for end, rate in rates:
@@ -85,7 +86,7 @@ class Network:
         self.known: dict[tuple[int, ...], Way] = {}
 
     def entries(self) -> Iterator[int]:
-        """Yields the movements whose vehicles come from outside the street."""
+        """Yields the movements whose vehicles enter from outside the street."""
         for place, it in enumerate(self.flows):
             if (it.cabinet, it.approach) not in self.fed:
                 yield place
@@ -101,7 +102,7 @@ class Network:
         return places[-1]
 
     def driven(self, draw: random.Random, entry: float, first: int) -> Vehicle:
-        """Returns a vehicle that comes to a first movement, with its whole way."""
+        """Returns a vehicle that enters at a first movement, with its whole route."""
         places = [first]
         travels: list[float] = []
         while True:
@@ -121,9 +122,8 @@ class Network:
 
 
 def travel(draw: random.Random, onward: Onward) -> float:
-    """Returns how long a vehicle drives to the next stop line, by Robertson's dispersion: nobody is faster than
-    1 / (1 + dispersion) of the time of travel, and what comes beyond that is exponential, with the time of travel as
-    the mean."""
+    """Returns how long a vehicle drives to the next stop line, by Robertson's dispersion: the shortest time is 1 / (1 +
+    dispersion) of the time of travel, and the rest is exponential, with the time of travel as the mean."""
     factor = onward.dispersion / (1.0 + onward.dispersion)
     return onward.travel * (1.0 - factor - factor * math.log(1.0 - draw.random()))
 
@@ -140,7 +140,8 @@ def route(flows: list[Flow]) -> str:
 
 
 def demand_of(volumes: Volumes, seed: int, start: float, seconds: float) -> Demand:
-    """Draws who comes in a run that begins at a time of day. Each movement and each crossing has draws of its own."""
+    """Generates the traffic of a run that begins at a time of day. Each movement and each crossing has random numbers
+    of its own."""
     network = Network(volumes.flows)
     vehicles: list[Vehicle] = []
     persons: list[Person] = []

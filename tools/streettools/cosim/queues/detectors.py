@@ -1,10 +1,12 @@
-"""What the detectors of a street tell its cabinets: calls by phase, from those who wait and those who drive by."""
+"""What the detectors of a street report to its cabinets: calls by phase, from vehicles that wait and vehicles that
+pass."""
 
 from .lines import StopLine
 from .volumes import Flow
 
 SPEED, SPACING = 13.4, 7.5
-"""How fast vehicles drive up (m/s), and how far apart they stand (m): how many fit between a detector and the line."""
+"""The speed at which vehicles arrive (m/s), and their spacing in a queue (m): how many fit between a detector and the
+line."""
 
 
 class PhaseDetectors:
@@ -16,16 +18,16 @@ class PhaseDetectors:
         self.on = b"veh %d %d on" % (cabinet, phase)
         self.off = b"veh %d %d off" % (cabinet, phase)
         self.lines: list[tuple[StopLine, int]] = []
-        """Queues that are seen, each with how many vehicles have to stand there."""
+        """The queues to watch, each with the number of vehicles from which its detector sees it."""
         self.until = self.seen = -1.0
-        """Up to when those who drive by are on a detector; the last second at which one was."""
+        """Until when vehicles that pass are on a detector; the last second at which one was."""
         self.is_on = False
         self.is_awake = False
-        """Whether there may be something to tell: somebody came or passed since the last look, or drives over it."""
+        """Whether something may have changed: a vehicle came or passed since the last look, or drives over it."""
 
     def watch(self, flow: Flow, line: StopLine) -> None:
-        """Adds the detectors of a movement: one at the stop line sees whoever waits, one further up sees a queue that
-        reaches it."""
+        """Adds the detectors of a movement: one at the stop line sees vehicles that wait, one further up sees a queue
+        that reaches it."""
         if flow.detectors.stop:
             self.lines.append((line, 1))
         elif flow.detectors.ahead:
@@ -39,7 +41,7 @@ class PhaseDetectors:
             self.until = end
 
     def told(self, now: float, requests: list[bytes]) -> None:
-        """Adds what has changed since the last step began: on and off both, where a vehicle came and went between."""
+        """Adds what has changed since the last step began: on and off both, if a vehicle came and went between."""
         is_on = self.until > now
         if not is_on:
             for line, least in self.lines:

@@ -13,11 +13,12 @@ from typing import NamedTuple
 from .lines import ALWAYS, EXACT, NEVER, Passed, StopLine
 
 RECENT = 64
-"""So many passages of a stop line are kept for those who yield to it."""
+"""How many passages of a stop line are kept for the movements that yield to it."""
 
 
 class Foe:
-    """A movement to which others yield: its stop line, who passed it lately, who is on the way to it."""
+    """A movement to which others yield: its stop line, the vehicles that passed it lately, and those on the way to
+    it."""
 
     __slots__ = ("line", "lately", "coming")
 
@@ -27,8 +28,8 @@ class Foe:
         self.coming: list[float] = []
 
     def next(self, at: float, now: float) -> float:
-        """Returns when the next vehicle after a second passes, as far as that can be seen at the end `now` of a step:
-        those who have passed, the head of the queue, those on their way, while the line is open."""
+        """Returns when the next vehicle after a second passes, as far as that is known at the end `now` of a step: by
+        vehicles that have passed, the head of the queue, and those on their way, while the line is open."""
         later = bisect_right(self.lately, at + EXACT)
         if later < len(self.lately):
             return self.lately[later]
@@ -52,7 +53,7 @@ class Gaps(NamedTuple):
 
 
 class YieldLine:
-    """A stop line while its movement gives way. `open_from` and `open_until` are the span in which it may; None where
+    """A stop line while its movement gives way. `open_from` and `open_until` are the span in which it may; None if
     it has no such span."""
 
     def __init__(self, line: StopLine, foes: list[Foe], gaps: Gaps) -> None:
@@ -83,7 +84,7 @@ class YieldLine:
         return min((foe.next(at, now) for foe in self.foes), default=ALWAYS)
 
     def passed(self, until: float, may_pass: Callable[[int], bool]) -> Iterator[Passed]:
-        """Yields those who take a gap before a second; they leave the queue."""
+        """Yields the vehicles that take a gap before a second; they leave the queue."""
         if self.open_from is None:
             return
         queue = self.line.queue
@@ -108,7 +109,8 @@ class YieldLine:
             self.open_from = None
 
     def sneaked(self, until: float, may_pass: Callable[[int], bool]) -> Iterator[Passed]:
-        """Yields those who complete their turn after the green, if none to whom they yield is green still."""
+        """Yields the vehicles that complete their turn after the green, unless a movement to which they yield still has
+        green."""
         if any(foe.line.open_until == ALWAYS for foe in self.foes) or self.line.open_until == ALWAYS:
             return
         queue = self.line.queue
@@ -118,7 +120,7 @@ class YieldLine:
             yield self.take(max(self.open_until + (1 + place // self.line.lanes) * self.gaps.follow, self.line.last))
 
     def take(self, at: float) -> Passed:
-        """Lets the first of the queue pass."""
+        """Moves the first of the queue over the line."""
         arrived, vehicle = self.line.queue.popleft()
         self.line.last, self.ready[self.turn] = at, at + self.gaps.follow
         self.turn = self.turn + 1 if self.turn + 1 < self.line.lanes else 0

@@ -1,4 +1,4 @@
-"""What is kept of a run of queues in a folder: the report, the trace with its names, what pictures are drawn from."""
+"""What is kept of a run of queues in a folder: the report, the trace with its names, what pictures need."""
 
 import pathlib
 from typing import TYPE_CHECKING

@@ -25,8 +25,8 @@ class Passed(NamedTuple):
 
 
 class StopLine:
-    """The stop line of a movement. `queue` has those who have reached the line and haven't passed it, in their order:
-    when each reached it, and its number. It is open from `opens` on, up to and with `open_until`.
+    """The stop line of a movement. `queue` has the vehicles that have reached the line and haven't passed it, in their
+    order: when each reached it, and its number. The line is open from `opens` to `open_until`, both included.
 
     A green rarely ends with a headway. The part of the next headway that a lane has used when it closes on a queue is
     carried over: the first vehicle of the next green passes that much earlier. So greens discharge on average what
@@ -46,7 +46,7 @@ class StopLine:
         self.open_until = NEVER
 
     def opens(self, at: float) -> None:
-        """Green begins. A lane in which somebody waits loses the start-up lost time, and then a headway for its first
+        """Begins green. A lane in which a vehicle waits loses the start-up lost time, and then a headway for its first
         vehicle, less what it carries over."""
         waiting, left = self.waiting(at), self.waiting(self.open_until)
         for place in range(self.lanes):
@@ -58,7 +58,7 @@ class StopLine:
         self.open_until = ALWAYS
 
     def waiting(self, at: float) -> int:
-        """Returns in how many lanes somebody waits at a second."""
+        """Returns in how many lanes a vehicle waits at a second."""
         found = 0
         for arrived, _ in self.queue:
             if arrived > at or found == self.lanes:
@@ -71,12 +71,14 @@ class StopLine:
         return min(max(self.open_until - (self.ready[lane] - self.gap), 0.0), self.gap)
 
     def closes(self, at: float) -> None:
-        """Green ends: who reaches the line within the part of the yellow that is used can't stop, and passes."""
+        """Ends green. A vehicle that reaches the line within the part of the yellow that is used can't stop, and
+        passes."""
         self.open_until = min(self.open_until, at + self.use)
 
     def discharged(self, until: float, may_pass: Callable[[int], bool] | None = None, most: int = MANY) -> list[Passed]:
-        """Returns those who pass before a second, as far as the line is open; they leave the queue. If `may_pass` says
-        no of the first, there is no room for it: it is asked about again at that second. `most` is how many pass."""
+        """Returns the vehicles that pass before a second, while the line is open; they leave the queue. If `may_pass`
+        is false for the first one, the room for it is missing, and it is tried again at that second. At most `most`
+        vehicles pass."""
         queue, ready = self.queue, self.ready
         passed: list[Passed] = []
         end = self.open_until + EXACT

@@ -11,7 +11,7 @@ if TYPE_CHECKING:
 
 @dataclass(frozen=True)
 class Said:
-    """The seconds from each cabinet to the next, None where they aren't said, and the phases that only the rings need,
+    """The seconds from each cabinet to the next, None if they aren't given, and the phases that only the rings need,
     each with its cabinet."""
 
     travel: tuple[float | None, ...] = ()
@@ -46,13 +46,13 @@ def with_travel(flow: Flow, said: Said) -> Flow:
 
 
 def with_travels(volumes: Volumes, said: Said) -> Volumes:
-    """Returns the volumes with the times of travel of the sheet where the file has none."""
+    """Returns the volumes with the times of travel of the sheet if the file has none."""
     return replace(volumes, flows=tuple(with_travel(it, said) for it in volumes.flows))
 
 
 def fitted(volumes: Volumes, said: Said) -> Volumes:
-    """Returns the volumes with what is said already: placeholder phases without traffic are idle, and times of travel
-    are those of the sheet where the file has none."""
+    """Returns the volumes with what the sheet says: placeholder phases without traffic are idle, and times of travel
+    that the file lacks are those of the sheet."""
     busy = {(it.cabinet, it.phase) for it in volumes.flows} | {(it.cabinet, it.phase) for it in volumes.crossings}
     found = with_travels(volumes, said)
     return replace(found, idle=found.idle | (said.placeholders - busy))

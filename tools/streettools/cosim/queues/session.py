@@ -8,8 +8,8 @@ from ..session import Session
 
 
 def scenario_of(scenario: dict[str, Any], rounds: int, keeps: bool) -> dict[str, Any]:
-    """Returns a scenario for a session of so many rounds: what comes later is left out, and so are its own vehicles and
-    persons, where they aren't kept beside those who are simulated."""
+    """Returns a scenario for a session of `rounds` rounds. What comes later is left out. The scenario's own vehicles
+    and persons are also left out, unless they are kept in addition to the simulated ones."""
     made: dict[str, Any] = scenario | {"rounds": rounds}
     for name in LISTS:
         if name in made:

@@ -48,7 +48,7 @@ class Steps:
 
 
 class Street:
-    """All stop lines of a street, what sees them, and who is on the way to them."""
+    """All stop lines of a street, their detectors, and the vehicles on the way to them."""
 
     def __init__(self, volumes: Volumes, demand: Demand, steps: Steps) -> None:
         self.flows, self.demand, self.steps = volumes.flows, demand, steps
@@ -99,7 +99,7 @@ class Street:
     def run(
         self, cabinets: Cabinets, signals: Signals, advance: Callable[[int], None], policy: Acts | None = None
     ) -> None:
-        """Runs all steps; `advance` is told each of them, a policy may act before each."""
+        """Runs all steps; `advance` is called with each of them, a policy may act before each."""
         signals.shown(cabinets.shown)
         if policy is not None:
             policy.heard(cabinets.shown)
@@ -114,7 +114,7 @@ class Street:
             advance(step)
 
     def requests(self, step: int) -> list[bytes]:
-        """Returns what cabinets are told before a step: push buttons, then detectors that have changed."""
+        """Returns the requests to cabinets before a step: push buttons, then detectors that have changed."""
         requests, now = self.presses[step], step * self.size
         for it in self.detectors.values():
             if it.is_awake:
@@ -129,7 +129,7 @@ class Street:
         self.discharge(step, step * self.size + self.size)
 
     def arrive(self, step: int) -> None:
-        """Takes those who reach a stop line, or drive over the detector ahead of it, in a step."""
+        """Takes the vehicles that reach a stop line, or drive over the detector ahead of it, in a step."""
         came = self.reached[step]
         if len(came) > 1:
             came.sort()
@@ -167,7 +167,7 @@ class Street:
                 line.closes(change.at)
 
     def discharge(self, step: int, until: float) -> None:
-        """Lets pass who can, at all stop lines; those who yield after the others."""
+        """Lets vehicles pass all stop lines that are open; movements that yield come after the others."""
         for place, line in enumerate(self.lines):
             if line.queue and line.open_until >= until - self.size:
                 self.passed(place, step, until)
@@ -182,7 +182,7 @@ class Street:
         return storage is None or self.held[way[at]] < storage
 
     def passed(self, place: int, step: int, until: float) -> None:
-        """Lets pass who can at one stop line, and sends them on."""
+        """Lets vehicles pass one stop line, and sends them on."""
         if place not in self.limited:
             self.moved(place, step, self.lines[place].discharged(until))
             return
@@ -190,7 +190,7 @@ class Street:
             self.moved(place, step, one)
 
     def moved(self, place: int, step: int, passed: Iterable[Passed]) -> None:
-        """Sends those who pass a stop line on."""
+        """Sends vehicles that pass a stop line to the next."""
         flow, seer = self.flows[place], self.seers[place]
         foe = self.foes.get(place)
         for vehicle, arrived, released in passed:
@@ -210,7 +210,7 @@ class Street:
 
 
 def presses(volumes: Volumes, demand: Demand, steps: Steps) -> list[list[bytes]]:
-    """Returns the push buttons that are pressed before each step: by those who came in the step before."""
+    """Returns the push buttons that are pressed before each step: by persons who came in the step before."""
     found: list[list[bytes]] = [[] for _ in range(steps.count)]
     for it in demand.persons:
         step = steps.place(it.at) + 1

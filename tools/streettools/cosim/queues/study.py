@@ -17,14 +17,14 @@ from .yielding import gives_way
 from ..records import Kind, Movement, Passage, Study, Trip, queue_samples
 
 STOPPED = 2.0
-"""Who waits as long as this has stopped; who waits less has slowed down."""
+"""A vehicle that waits as long as this has stopped; one that waits less has slowed down."""
 MOST_TICKS, MOST_ROUNDS = 55_296_000, 86_400
 
 
 @dataclass(frozen=True)
 class Asked:
-    """What is asked of a run: how many seconds, the ticks of a step, the seed, what is left out at the beginning,
-    whether the scenario's own inputs stay, whether the trace is kept."""
+    """The settings of a run: how many seconds, the ticks of a step, the seed, what is left out at the beginning,
+    whether the scenario's own inputs are kept, whether the trace is kept."""
 
     seconds: float
     step: int = 10
@@ -36,7 +36,7 @@ class Asked:
 
 @dataclass
 class Ran:
-    """What came of a run: the street, its signals, who came, and the trace where it was kept."""
+    """The result of a run: the street, its signals, the traffic, and the trace if it was kept."""
 
     volumes: Volumes
     asked: Asked
@@ -74,7 +74,7 @@ def session_of(scenario: dict[str, Any], asked: Asked) -> tuple[dict[str, Any], 
 
 
 Advance = Callable[[int], None]
-"""Is told each step that is done."""
+"""Is called with each step that is done."""
 
 
 Makes = Callable[[Street], Acts]
@@ -111,7 +111,7 @@ def movements_of(volumes: Volumes) -> list[Movement]:
 
 
 def movement_of(flow: Flow) -> Movement:
-    """Returns the movement of a flow; where it gives way its gaps are no capacity that is known before."""
+    """Returns the movement of a flow; if it gives way, the capacity of its gaps isn't known beforehand."""
     rates = flow.saturation
     service = None if gives_way(flow) else (rates.flow * flow.lanes, rates.lost, rates.yellow)
     parents = (flow.phase, *(it for it in flow.permitted if it != flow.phase)) if gives_way(flow) else ()

@@ -1,4 +1,4 @@
-"""The volumes of a street, as their TOML file says them: who comes, how many lanes there are, where they go on.
+"""The volumes of a street, as their TOML file has them: vehicles and persons, lanes, and where vehicles go on.
 
 docs/QUEUES.md says what each name means. Times are seconds, times of day are seconds from midnight, volumes are
 vehicles an hour.
@@ -49,7 +49,7 @@ class Detectors:
 
 @dataclass(frozen=True)
 class Onward:
-    """Where vehicles go on: the cabinet and the approach there, how long they drive at the wanted speed (0 where the
+    """Where vehicles go on: the cabinet and the approach there, how long they drive at the wanted speed (0 if the
     file doesn't say it, and a sheet has to), which share of the movement goes there (the others leave the street), and
     the dispersion of platoons."""
 
@@ -75,9 +75,9 @@ class Yielding:
 
 @dataclass(frozen=True)
 class Flow:
-    """A movement of an approach: its phase, its volume, its lanes, what sees it, where it goes on. `permitted` are
+    """A movement of an approach: its phase, its volume, its lanes, its detectors, where it goes on. `permitted` are
     phases in which it may turn after it yields. `storage` is how many vehicles fit between the stop lines before and
-    this one, None where there is no limit."""
+    this one, None if there isn't a limit."""
 
     cabinet: int
     name: str
@@ -118,7 +118,7 @@ class Volumes:
 
 
 def time_of(text: Any) -> float | None:
-    """Returns a time of day that is written as 7:30, in seconds; None where it isn't one."""
+    """Returns a time of day that is written as 7:30, in seconds; None if it isn't one."""
     return float(DAY_SECONDS) if text == "24:00" else of_day(text) if isinstance(text, str) else None
 
 
@@ -150,7 +150,7 @@ def saturation_of(given: Given, usual: Saturation) -> Saturation:
 
 
 def detectors_of(given: Given, usual: Detectors) -> Detectors:
-    """Reads what sees vehicles."""
+    """Reads the detectors of vehicles."""
     found = Detectors(
         given.take("stop_detector", bool, usual.stop),
         given.within("ahead", NUMBER, 0, 30, usual.ahead),
@@ -161,7 +161,7 @@ def detectors_of(given: Given, usual: Detectors) -> Detectors:
 
 @dataclass(frozen=True)
 class Usual:
-    """What holds for a movement that says nothing else."""
+    """The defaults of a movement."""
 
     saturation: Saturation
     detectors: Detectors

@@ -1,4 +1,5 @@
-"""To whom a turn gives way, and with which gaps, by the names of movements where the file of volumes says no more."""
+"""The movements to which a turn gives way, and its gaps: by the names of movements if the file of volumes doesn't say
+them."""
 
 import re
 
@@ -14,9 +15,9 @@ RIGHT_CRITICAL, RIGHT_CRITICAL_WIDE, RIGHT_FOLLOW = 6.2, 6.9, 3.3
 
 
 def yields_to(flow: Flow) -> tuple[str, ...]:
-    """Returns the names of the movements to which one yields: those that are given; else a left turn yields to who
-    comes straight on and turns right from opposite, a right turn on red to who comes from the left and to the left turn
-    from opposite. Empty where the name has no direction."""
+    """Returns the names of the movements to which one yields: those that are given; by default, a left turn yields to
+    the through movement and the right turn from opposite, a right turn on red to the through movement from the left and
+    to the left turn from opposite. Empty if the name has no direction."""
     if flow.yielding.to:
         return flow.yielding.to
     name = NAME.fullmatch(flow.name)
@@ -37,7 +38,7 @@ def gives_way(flow: Flow) -> bool:
 
 
 def gaps_of(flow: Flow, lanes: int) -> Gaps:
-    """Returns the gaps that a turn takes from streams of so many lanes."""
+    """Returns the gaps that a turn takes from streams with a number of lanes."""
     given = flow.yielding
     if given.on_red:
         critical, follow = RIGHT_CRITICAL_WIDE if lanes > 1 else RIGHT_CRITICAL, RIGHT_FOLLOW

@@ -1,6 +1,6 @@
 """What a page has of a trace: each cabinet's frames, local zeros, barriers, ends of greens, calls and marks.
 
-Frames are kept as they stand in the trace; all else that needs the tables in force is worked out here, as for the other
+Frames are kept as they are in the trace; all else that needs the tables in force is worked out here, as for the other
 pictures.
 """
 
@@ -59,14 +59,14 @@ class CabinetNumbers:
         return next((pair for pair in (coordinated(tables, it) for it in chosen) if pair), (2, 6))
 
     def laid(self, tick: int) -> None:
-        """Takes over the rings of the tables in force."""
+        """Processes the rings of the tables in force."""
         tables = self.cabinet.tables
         digits = "".join(str(tables.phase(phase, 22) if tables.option(phase, 1) else 0) for phase in ALL)
         if not self.rings or self.rings[-1][1] != digits:
             self.rings.append((tick, digits))
 
     def paired(self, tick: int, pair: tuple[int, int]) -> None:
-        """Takes over coordinated phases."""
+        """Processes coordinated phases."""
         if not self.pairs or self.pairs[-1][1:] != pair:
             self.pairs.append((tick, *pair))
 
@@ -75,7 +75,7 @@ class CabinetNumbers:
         self.tables["marks"].add(tick, kind, self.shared.words.number(text))
 
     def take(self, happening: Happening) -> None:
-        """Takes over what happened at the cabinet."""
+        """Processes what happened at the cabinet."""
         match happening:
             case Frame():
                 self.shown(happening)
@@ -99,7 +99,7 @@ class CabinetNumbers:
             self.laid(tick)
 
     def answered(self, tick: int, digits: str) -> None:
-        """Keeps what a reply tells of orders, and that it refuses a Set."""
+        """Keeps the orders in a reply, and that it refuses a Set."""
         refused = answers.refused(digits)
         if refused is not None:
             self.mark(tick, REFUSED, set_words(refused))
@@ -138,7 +138,7 @@ class CabinetNumbers:
             )  # fmt: skip
 
     def changed(self, before: Frame, frame: Frame) -> None:
-        """Keeps how greens end with a frame, and a barrier where a phase of another side turns green."""
+        """Keeps how greens end with a frame, and a barrier if a phase of another side turns green."""
         for phase, was, shows in changes(before.vehicles, frame.vehicles):
             if was == "G":
                 ending = self.shared.endings.number(self.cabinet.ending(phase, frame))

@@ -1,5 +1,6 @@
 """The colours of a page. Most are from the palette of Okabe and Ito (Color Universal Design, 2008), which readers with
-any of the common colour deficiencies tell apart. Letters stand beside them, so that a page printed in black is read.
+any of the common colour deficiencies can distinguish. Letters are next to them, so that a page printed in black is
+readable.
 """
 
 SIGNALS = {

@@ -1,6 +1,6 @@
 """Rows of whole numbers, kept by columns and packed for a page.
 
-A column is written in planes: the lowest octet of each number first, then the next octet of each, four in all. The high
+A column is written in planes: the lowest byte of each number first, then the next byte of each, four in all. The high
 planes are mostly zeros, so that the whole deflates well. Ticks are written as the steps between them.
 """
 
@@ -18,7 +18,7 @@ FIELDS = {
     "calls": ("tick", "kind", "number", "on"),
     "marks": ("tick", "kind", "words"),
 }
-"""The tables of a cabinet and the columns of each. Rows stand in the order of their ticks."""
+"""The tables of a cabinet and the columns of each. Rows are in the order of their ticks."""
 
 
 class Table:
@@ -59,14 +59,14 @@ def steps(ticks: array) -> Iterator[int]:
 
 
 def planes(numbers: array) -> bytes:
-    """Returns numbers as four planes of octets."""
+    """Returns numbers as four planes of bytes."""
     octets = array("I", [number & 0xFFFFFFFF for number in numbers]).tobytes()
     return b"".join(octets[place::4] for place in range(4))
 
 
 def packed(cabinets: list[dict[str, Table]]) -> tuple[dict[str, list[int]], str]:
-    """Returns how many rows each cabinet has in each table, and all columns: a column of all cabinets after another,
-    deflated, as base64."""
+    """Returns how many rows each cabinet has in each table, and all columns: the columns of all cabinets one after
+    another, deflated, as base64."""
     counts = {name: [len(tables[name]) for tables in cabinets] for name in FIELDS}
     squeezer, parts = zlib.compressobj(9), []
     for name, fields in FIELDS.items():

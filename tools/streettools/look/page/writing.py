@@ -1,7 +1,7 @@
 """Puts a page together: its frame, its style, the drawing library, its code and its data, in one file.
 
 The library is D3 as Debian's `node-d3` packages it: it has scales, axes, zoom by wheel, pinch and drag, and searches in
-rising lists. It stands in the page whole, with its licence, so that the page needs no network.
+rising lists. The page has all of it, with its licence, so that the page needs no network.
 """
 
 import html
@@ -32,8 +32,8 @@ CODE = (
 
 
 class Asked(NamedTuple):
-    """What was asked for beside the trace: the street's cabinets in order, the ticks of travel between them or None,
-    and the seconds from midnight at which tick 0 stands, or None."""
+    """The options in addition to the trace: the street's cabinets in order, the ticks of travel between them or None,
+    and the seconds from midnight to tick 0, or None."""
 
     street: list[int]
     travel: list[int] | None
@@ -46,7 +46,7 @@ def part(name: str) -> str:
 
 
 def library(path: pathlib.Path) -> str:
-    """Returns a file of the library; where it is missing, what is to be installed is told."""
+    """Returns a file of the library; if it is missing, the fault names the package to install."""
     try:
         return path.read_text(encoding="utf-8")
     except FileNotFoundError:
@@ -54,7 +54,8 @@ def library(path: pathlib.Path) -> str:
 
 
 def shown_pairs(numbers: CabinetNumbers, partners: frozenset[int]) -> list[list[int]]:
-    """Returns the coordinated phases from tick to tick; for a partner stands the other one, which it is green with."""
+    """Returns the coordinated phases from tick to tick; a partner is replaced by the other phase, which it is green
+    with."""
     found = []
     for tick, one, other in numbers.pairs:
         found.append([tick, other if one in partners else one, one if other in partners else other])
@@ -62,7 +63,7 @@ def shown_pairs(numbers: CabinetNumbers, partners: frozenset[int]) -> list[list[
 
 
 def cabinet_head(numbers: CabinetNumbers, names: Called) -> dict[str, Any]:
-    """Returns what a page says of a cabinet beside its numbers."""
+    """Returns what a page says of a cabinet in addition to its numbers."""
     number = numbers.cabinet.number
     partners = names.partners(number)
     preempts = {it: names.preempt(number, it) for it in range(1, 17)} if names.is_given else {}

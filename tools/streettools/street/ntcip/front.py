@@ -36,7 +36,7 @@ Parted = list[tuple[int, Binding]]
 
 
 class Cabinet:
-    """A cabinet behind the front."""
+    """A cabinet and its front."""
 
     def __init__(
         self, street: Street, cabinet: int, before: "Cabinet | None" = None, is_carried: bool = False
@@ -57,7 +57,8 @@ class Cabinet:
         self.in_order = InOrder()
 
     async def answer(self, octets: bytes, manager: Manager) -> bytes | None:
-        """Returns the reply to a datagram. What is no message, or is the cabinet's own matter, the cabinet answers."""
+        """Returns the reply to a datagram. The cabinet itself answers if the datagram isn't a valid message, or only
+        concerns the cabinet."""
         asked = asked_of(octets) if len(octets) <= LONGEST else None
         if asked is None or self.is_of_the_cabinet(asked):
             passed_on = functools.partial(self.street.datagram, self.number, octets)
@@ -98,8 +99,8 @@ class Cabinet:
     # what is read
 
     async def got(self, asked: Message) -> list[Binding]:
-        """Returns the values of objects; in version 1 one that there is none of is a fault, later it is said in its
-        place."""
+        """Returns the values of objects. In version 1 a missing object is a fault; in later versions it is reported in
+        place of its value."""
         names = [it.arcs for it in asked.bindings]
         own = {name: await OBJECTS[name](self.front) for name in names if name in OBJECTS}
         others = list(dict.fromkeys(name for name in names if name not in own))
@@ -112,7 +113,7 @@ class Cabinet:
         return [Binding(name, found[name] or absent(name)) for name in names]
 
     async def following(self, name: Arcs) -> Binding | None:
-        """Returns the first object behind a name, of the front or of the cabinet; None behind the last."""
+        """Returns the first object after a name, of the front or of the cabinet; None after the last."""
         place = bisect.bisect_right(ORDER, name)
         own = ORDER[place] if place < len(ORDER) else None
         other = await self.front.side.next(name)
@@ -121,7 +122,7 @@ class Cabinet:
         return Binding(own, await OBJECTS[own](self.front))
 
     async def got_next(self, asked: Message, binds: list[Binding]) -> list[Binding]:
-        """Returns the objects behind some names."""
+        """Returns the objects after some names."""
         found = []
         for at, it in enumerate(binds, 1):
             after = await self.following(it.arcs)
@@ -131,7 +132,7 @@ class Cabinet:
         return found
 
     async def got_bulk(self, asked: Message) -> bytes:
-        """Returns the reply to a GetBulk, which is cut where a message can't be longer."""
+        """Returns the reply to a GetBulk, which is cut at the maximum length of a message."""
         single = max(0, asked.first)
         found = await self.got_next(asked, asked.bindings[:single])
         row = asked.bindings[single:]
@@ -196,7 +197,7 @@ class Cabinet:
             raise Fault(status if asked.version == V1 else of_the_cabinet(status, it.arcs, it.value), at)
 
     def test(self, at: int, it: Binding, count: int) -> None:
-        """Raises what can't be set of the front's, in a message of so many bindings."""
+        """Raises Fault if a binding can't set an object of the front, in a message of `count` bindings."""
         if it.arcs not in WRITABLE:
             raise Fault(NOT_WRITABLE, at)
         if it.value.tag not in (WHOLE_TIME if it.arcs == GLOBAL_TIME else (INTEGER,)):
@@ -239,8 +240,7 @@ class Cabinet:
 
 
 def absent(name: Arcs) -> Field:
-    """Returns what stands in the place of a value, where there is none: whether the object is missing or only this
-    instance of it (RFC 3416)."""
+    """Returns what replaces a missing value: that the object doesn't exist, or only this instance of it (RFC 3416)."""
     return Field(NO_SUCH_INSTANCE if has_type(name, TYPES) else NO_SUCH_OBJECT, b"")
 
 
@@ -250,7 +250,7 @@ def value_of(value: Field) -> int:
 
 
 class Fronts:
-    """The fronts of a street's cabinets; a street that begins anew has new ones."""
+    """The fronts of a street's cabinets; a new session of the street has new ones."""
 
     def __init__(self, street: Street) -> None:
         self.street = street

@@ -1,7 +1,8 @@
-"""Who holds the transaction of a cabinet, who has lost one, and what the Sets of transactions were answered.
+"""Which manager holds the transaction of a cabinet, which have lost one, and how the Sets of transactions were
+answered.
 
 A manager is an address and a port. Tools that take a new port for each message are known by their address only: a
-message from a new port of the address that holds the transaction is taken for one of the same manager.
+message from a new port of the address that holds the transaction counts as one of the same manager.
 """
 
 import collections
@@ -16,7 +17,7 @@ MOST_KEPT = 512
 LATE = 1024
 """By how much the number of a late message may be below that of the manager's last request for a transaction."""
 SECONDS = 60.0
-"""How late a message may be. A manager that begins its numbers anew later than that isn't taken for a late one."""
+"""How late a message may be. If a manager restarts its numbers later than that, its message isn't late."""
 NUMBERS = 1 << 32
 
 Key = TypeVar("Key")
@@ -26,7 +27,7 @@ Answered = tuple[int, int]
 
 
 def digest_of(octets: bytes) -> bytes:
-    """Returns what tells octets from all others."""
+    """Returns a digest that identifies octets."""
     return hashlib.blake2b(octets, digest_size=16).digest()
 
 
@@ -46,16 +47,16 @@ class Copies:
         self.of = collections.OrderedDict()
 
     def answered(self, manager: Manager, number: int, octets: bytes) -> Answered | None:
-        """Returns what the first copy of a Set was answered, None if there was none."""
+        """Returns the answer to the first copy of a Set, None if there was none."""
         digest, answered, when = self.of.get((manager, number), (b"", (0, 0), 0.0))
         return answered if digest == digest_of(octets) and time.monotonic() <= when + SECONDS else None
 
     def keep(self, manager: Manager, number: int, octets: bytes, answered: Answered) -> None:
-        """Keeps what a Set was answered."""
+        """Keeps the answer to a Set."""
         keep(self.of, (manager, number), (digest_of(octets), answered, time.monotonic()))
 
     def begins_anew(self, answered: Answered) -> None:
-        """The street begins anew: copies of what was done before are answered otherwise."""
+        """The street begins a new session: copies of Sets that were answered before now get this answer."""
         for key, (digest, _, when) in self.of.items():
             self.of[key] = (digest, answered, when)
 
@@ -71,12 +72,13 @@ class Managers:
         self.asked: collections.OrderedDict[Manager, tuple[int, float]] = collections.OrderedDict()
         """The number of the last message by which each manager has asked for a transaction, and when it came."""
         self.lost: collections.OrderedDict[Manager, None] = collections.OrderedDict()
-        """Those whose transaction ended otherwise than they asked for. They are told so until they ask for another."""
+        """Managers whose transaction ended differently from what they asked for. They get an error until they ask for
+        another."""
         self.endings: collections.OrderedDict[Manager | str, bool] = collections.OrderedDict()
         """Whether the last transaction of a manager, or of an address, ended as it was asked for."""
 
     def asks(self, manager: Manager, number: int) -> None:
-        """A manager asks for a transaction: what became of the one before is its concern no longer."""
+        """A manager asks for a transaction: how the one before ended no longer concerns it."""
         keep(self.asked, manager, (number, time.monotonic()))
         self.lost.pop(manager, None)
         self.endings.pop(manager, None)
@@ -112,12 +114,13 @@ class Managers:
         self.end(False, self.ports)
 
     def discarded(self, by: Manager | None) -> None:
-        """The transaction ends as a manager asks for, perhaps another one, or because the street begins anew."""
+        """The transaction ends as a manager asks for, perhaps a different one, or because the street begins a new
+        session."""
         is_own = by is not None and self.holds(by)
         self.end(is_own, set() if by == self.holder else {it for it in self.ports if it != by})
 
     def begins_anew(self) -> None:
-        """The street begins anew: no tables that were put in force before are in force."""
+        """The street begins a new session: tables that were put in force before aren't in force."""
         self.endings = collections.OrderedDict.fromkeys(self.endings, False)
 
     def end(self, is_well: bool, losers: set[Manager]) -> None:

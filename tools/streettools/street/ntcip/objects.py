@@ -1,7 +1,7 @@
-"""The objects that the front answers itself, beside those of the cabinet.
+"""The objects that the front answers itself, in addition to those of the cabinet.
 
 Names and numbers are those of the public standards as they are known here: MIB-2's system group (RFC 3418), NTCIP 1201
-and NTCIP 1202. Where that is in doubt docs/CLIENTS.md says so.
+and NTCIP 1202. If that is in doubt, docs/CLIENTS.md says so.
 """
 
 from collections.abc import Awaitable, Callable
@@ -47,7 +47,7 @@ Read = Callable[[Front], Awaitable[Field]]
 
 
 def constant(value: Field) -> Read:
-    """Returns what reads a value that doesn't change."""
+    """Returns a reader of a value that doesn't change."""
 
     async def read(front: Front) -> Field:
         return value
@@ -56,7 +56,7 @@ def constant(value: Field) -> Read:
 
 
 def kept(told: Callable[[Front], Field]) -> Read:
-    """Returns what reads a value that the front keeps."""
+    """Returns a reader of a value that the front keeps."""
 
     async def read(front: Front) -> Field:
         return told(front)
@@ -65,7 +65,7 @@ def kept(told: Callable[[Front], Field]) -> Read:
 
 
 def by_stage(told: Callable[[Transaction], Field]) -> Read:
-    """Returns what reads a value of the transaction, which follows the cabinet's stage."""
+    """Returns a reader of a value of the transaction, which follows the cabinet's stage."""
 
     async def read(front: Front) -> Field:
         await front.transaction.look()
@@ -86,7 +86,7 @@ async def global_time(front: Front) -> Field:
 
 
 async def set_id(front: Front) -> Field:
-    """Returns a number that changes with the tables in force, also if the street begins anew."""
+    """Returns a number that changes with the tables in force, and also if the street begins a new session."""
     (version,) = await front.side.numbers(VERSION_OF_TABLES)
     return whole((version + SESSION_STEP * front.street.renewals) % SET_IDS)
 
@@ -132,7 +132,7 @@ async def sync_status(front: Front) -> Field:
 
 
 async def cycle_status(front: Front) -> Field:
-    """Returns the whole seconds that are left of the cycle, 0 where no pattern runs."""
+    """Returns the whole seconds that are left of the cycle, 0 if no pattern runs."""
     pattern, counter = await front.side.numbers(STATUS, COUNTER_OF_CYCLE)
     if pattern not in PATTERNS:
         return whole(0)
@@ -180,17 +180,17 @@ def modules() -> dict[Arcs, Read]:
 
 
 def detectors(group: int) -> Read:
-    """Returns what reads which vehicle detectors of a group are on, as bits."""
+    """Returns a reader of the vehicle detectors of a group that are on, as bits."""
     return kept(lambda front: whole(front.street.inputs.bits(front.cabinet, group - 1)))
 
 
 def people(group: int) -> Read:
-    """Returns what reads the bits of the calls of people that were set last."""
+    """Returns a reader of the bits of the calls of people that were set last."""
     return kept(lambda front: whole(front.people[group - 1]))
 
 
 def preempt(number: int) -> Read:
-    """Returns what reads whether the input of a preempt is on."""
+    """Returns a reader of whether the input of a preempt is on."""
     return kept(lambda front: whole(int(front.street.inputs.is_on("preempt", front.cabinet, number))))
 
 

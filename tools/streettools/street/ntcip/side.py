@@ -9,7 +9,7 @@ NOTHING = Field(NULL, b"")
 
 
 class Silent(Exception):
-    """The cabinet doesn't answer, as when the street begins anew."""
+    """The cabinet doesn't answer, as when the street begins a new session."""
 
 
 class Side:
@@ -31,7 +31,7 @@ class Side:
         return octets_of(Message(V1, self.street.community(), kind, number, 0, 0, bindings))
 
     async def get(self, names: list[Arcs]) -> dict[Arcs, Field | None]:
-        """Returns the values of some objects; None for one that there is none of."""
+        """Returns the values of some objects; None for one that doesn't exist."""
         known: dict[Arcs, Field | None] = {}
         wanted = list(dict.fromkeys(names))
         while wanted:

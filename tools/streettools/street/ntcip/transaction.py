@@ -19,7 +19,7 @@ from .side import Side
 NORMAL, GATHERING, VERIFY, DONE = 1, 2, 3, 6
 NOT_DONE, WITH_ERROR, WITHOUT_ERROR = 1, 2, 3
 STAGED, VERIFIED, REFUSED = 1, 3, 8
-"""Outcomes of the cabinet's download stage; VERIFIED is a state of it, too, and so is DONE."""
+"""Outcomes of the cabinet's download stage; VERIFIED and DONE are also states of it."""
 CELLS_OF_A_PART = 24
 MOST_CELLS = 768
 """How many cells a download may have."""
@@ -52,8 +52,8 @@ class Transaction:
     # cells
 
     def test(self, given: Cells, manager: Manager, number: int) -> None:
-        """Raises the first of some cells that the transaction doesn't take: by its manager, by its name, its type and
-        its range, or because there is no room for it."""
+        """Raises Fault for the first cell that the transaction doesn't take: by its manager, its name, its type or
+        range, or because the download is full."""
         known = set(self.cells)
         for at, it in given:
             if self.managers.is_late(manager, number) or not self.managers.holds(manager):
@@ -99,7 +99,7 @@ class Transaction:
             raise Fault(GEN_ERR, 1)
 
     def end(self, state: int, verified: int, error: bytes) -> None:
-        """Says where the transaction stands."""
+        """Sets the state of the transaction, and the result of its verification."""
         self.state, self.verified, self.error = state, verified, error
         self.was_verified = verified == WITHOUT_ERROR
 
@@ -120,8 +120,8 @@ class Transaction:
             self.end(DONE, WITH_ERROR, refused.why)
 
     async def close(self, manager: Manager) -> None:
-        """Ends the transaction for its manager: verified tables are put in force, others discarded. Another manager
-        discards them in any case; their own manager is told so when it speaks next."""
+        """Ends the transaction for its manager: verified tables are put in force, others discarded. If another manager
+        ends it, they are discarded in any case, and their own manager gets an error when it sends its next message."""
         is_own = self.managers.holds(manager)
         if not is_own and (self.state == NORMAL or self.managers.ending(manager) is not None):
             await self.close_again(manager)
@@ -155,7 +155,7 @@ class Transaction:
             raise Fault(GEN_ERR, 1)
 
     async def look(self) -> None:
-        """Reads whether verified tables are still those of the cabinet's stage, before it is told that they are."""
+        """Reads whether verified tables are still those of the cabinet's stage, before a reply says that they are."""
         if self.verified == WITHOUT_ERROR and self.state == DONE and self.cells:
             (stage,) = await self.side.numbers(STATE)
             if stage != VERIFIED or self.downloads.greatest[self.side.cabinet] != self.load:

@@ -7,8 +7,8 @@ if TYPE_CHECKING:
 
 
 def told(names: "Names | None", count: int) -> dict[str, Any]:
-    """Returns the names of a street of so many cabinets as a page gets them, empty where there are none; and the
-    seconds from each cabinet to the next, None where they aren't known."""
+    """Returns the names of a street of `count` cabinets as a page gets them, empty without names; and the seconds from
+    each cabinet to the next, None if they aren't known."""
     rows = [names.intersection(number) for number in range(1, count + 1)] if names else []
     return {
         "title": names.title if names else "",

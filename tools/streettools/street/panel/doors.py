@@ -1,4 +1,4 @@
-"""Who may come in to the panel: connections, and what they must bring."""
+"""The panel's access control: connections, and what they must bring."""
 
 import asyncio
 import errno
@@ -17,7 +17,7 @@ LOOPBACK_NAMES = ("localhost", "127.0.0.1", "[::1]")
 FIRST_SECONDS = 10.0
 """How long a connection may take until it is a page's web socket. A browser opens another one when it needs it."""
 MOST_ASKING, SPARE = 64, 64
-"""How many connections there may be that are no page's; how many files are left to the rest of the street."""
+"""How many connections may be open that don't belong to a page; how many files are left to the rest of the street."""
 NO_FILES = (errno.EMFILE, errno.ENFILE)
 
 
@@ -49,7 +49,7 @@ def room(pages: int) -> int:
 
 
 class Crowd:
-    """The connections that are no page's web socket. Where there are too many the one that came first goes."""
+    """The connections that aren't a page's web socket. If there are too many, the oldest is dropped."""
 
     def __init__(self) -> None:
         self.asking: dict[asyncio.BaseProtocol, asyncio.TimerHandle] = {}
@@ -91,7 +91,7 @@ class Connection(web.RequestHandler):
 
 
 def said_once(loop: asyncio.AbstractEventLoop, context: dict[str, Any]) -> None:
-    """Handles a fault in an event loop that nobody takes: that no more files can be opened is said once."""
+    """Handles an unhandled fault of an event loop: that no more files can be opened is printed once."""
     if getattr(context.get("exception"), "errno", None) not in NO_FILES:
         loop.default_exception_handler(context)
     else:
@@ -100,5 +100,5 @@ def said_once(loop: asyncio.AbstractEventLoop, context: dict[str, Any]) -> None:
 
 @functools.cache
 def say_no_files() -> None:
-    """Says that no more files can be opened."""
+    """Prints that no more files can be opened."""
     saying.say("street", "too many files are open: the panel takes no connection until some are closed")

@@ -8,13 +8,13 @@ from ..words import FASTEST, SLOWEST
 from .streams import MOST
 
 LONGEST = 512
-"""The octets of the longest order."""
+"""The bytes of the longest order."""
 MOST_STEP = 36_000
 PLACES = {"veh": 16, "ped": 16, "preempt": 8}
 
 
 class Wrong(Exception):
-    """An order that can't be taken."""
+    """An order that isn't accepted."""
 
 
 @dataclass(frozen=True)
@@ -34,7 +34,7 @@ class Pulse:
 
 @dataclass(frozen=True)
 class Rate:
-    """So many vehicles an hour on a detector."""
+    """A rate of vehicles on a detector, in vehicles an hour."""
 
     cabinet: int
     phase: int
@@ -43,14 +43,14 @@ class Rate:
 
 @dataclass(frozen=True)
 class Speed:
-    """The speed at which time goes on; with 0 it stands."""
+    """The speed at which time advances; with 0 it is stopped."""
 
     speed: float
 
 
 @dataclass(frozen=True)
 class Step:
-    """So many ticks at once."""
+    """Takes this number of ticks at once."""
 
     ticks: int
 
@@ -94,7 +94,7 @@ def input_of(told: dict[str, Any], cabinets: int) -> Input:
 
 
 def order_of(text: str, cabinets: int) -> Order:
-    """Returns the order that a text is; one that can't be taken is raised."""
+    """Returns the order that a text is; raises Wrong if it isn't accepted."""
     try:
         told = json.loads(text) if len(text) <= LONGEST else None
     except (ValueError, RecursionError):

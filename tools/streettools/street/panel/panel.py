@@ -50,7 +50,7 @@ class Page:
         self.dropping: asyncio.Task[bool] | None = None
 
     def tell(self, text: str) -> None:
-        """Lets a text wait for the page; one that doesn't read is dropped."""
+        """Queues a text for the page; a page that doesn't read is dropped."""
         try:
             self.waiting.put_nowait(text)
         except asyncio.QueueFull:
@@ -117,10 +117,10 @@ class Panel(Hearer):
             self.pages.discard(page)
             writer.cancel()
 
-    # what pages are told
+    # what pages receive
 
     def head(self) -> dict[str, Any]:
-        """Returns what a page is told as it opens."""
+        """Returns what a page receives as it opens."""
         called = {"names": self.names, "start": self.start()}
         laid = {"facts": self.shown.facts, "ticks": self.shown.scenario["ticks"]}
         return {**laid, **called, "all": True, **self.shown.news(0)}
@@ -134,7 +134,7 @@ class Panel(Hearer):
         return int(scenario.get("master", {}).get("clock") or scenario["cabinets"][0].get("clock", 0))
 
     def state(self) -> dict[str, Any]:
-        """Returns what every text tells: the speed, the switches, the streams, and how the street ended."""
+        """Returns the contents of every text: the speed, the switches, the streams, and how the street ended."""
         return {
             "speed": self.street.pace.speed,
             "step": self.street.after_message,
@@ -150,7 +150,7 @@ class Panel(Hearer):
             page.tell(text)
 
     async def news(self) -> None:
-        """Tells pages what has changed since they were told last, again and again."""
+        """Sends pages what has changed since their last message, repeatedly."""
         while True:
             await asyncio.sleep(EVERY)
             if self.pages:
@@ -163,11 +163,12 @@ class Panel(Hearer):
                 page.known = self.known()
 
     def known(self) -> tuple[int, int]:
-        """Returns up to what a page knows all that is told now: the session, and the last change."""
+        """Returns what a page knows after this message: the session, and its last change."""
         return self.shown.sessions, self.shown.change
 
     def news_behind(self, known: tuple[int, int]) -> dict[str, Any]:
-        """Returns what a page is told that knows so much; of another session all."""
+        """Returns what a page receives that knows a session up to a change; if the session is a different one,
+        everything."""
         return self.shown.news(known[1]) if known[0] == self.shown.sessions else self.head()
 
     async def details(self) -> None:
@@ -186,12 +187,12 @@ class Panel(Hearer):
         return {"cabinet": cabinet} | (dict(zip(DETAILS, numbers_of(reply))) if reply else {})
 
     async def got(self, cabinet: int, names: list[in_force.Name]) -> bytes | None:
-        """Returns a cabinet's reply to a Get of the panel's own; None where it is silent."""
+        """Returns a cabinet's reply to a Get of the panel's own; None if it is silent."""
         octets = message(GET, 1, [(name, None) for name in names], self.street.community())
         return await self.street.message(cabinet, octets)
 
     async def tables(self) -> None:
-        """Lays cabinets out anew that have other tables in force, and tells pages."""
+        """Draws the layout of cabinets again whose tables in force have changed, and sends it to pages."""
         while True:
             await asyncio.sleep(EVERY)
             for cabinet in self.shown.outdated() if self.pages else ():
@@ -199,7 +200,7 @@ class Panel(Hearer):
                     await self.lay_out(cabinet)
 
     async def lay_out(self, cabinet: int) -> None:
-        """Lays a cabinet out by the tables in force, and tells pages."""
+        """Draws the layout of a cabinet by the tables in force, and sends it to pages."""
 
         async def asked(names: list[in_force.Name]) -> in_force.Values | None:
             reply = await self.got(cabinet, names)

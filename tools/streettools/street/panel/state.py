@@ -43,7 +43,7 @@ class Shown:
     changed: int = 0
 
     def take(self, words: list[str]) -> None:
-        """Takes over a frame line, by its words behind the cabinet."""
+        """Processes a frame line, by its words after the cabinet."""
         tick, vehicles, pedestrians = int(words[0]), words[1], words[2]
         for at in range(16):
             if vehicles[at] != self.vehicles[at]:
@@ -62,7 +62,7 @@ class Shown:
             self.greens.popleft()
 
     def row(self) -> list[Any]:
-        """Returns what a page is told of it."""
+        """Returns what a page receives of it."""
         return [self.tick, self.vehicles, self.pedestrians, self.mode, self.counter, self.target, self.version,
                 self.since, self.ped_since]  # fmt: skip
 
@@ -84,7 +84,7 @@ def note_text(line: str) -> str:
 
 
 class PanelState(Hearer):
-    """All that pages show. What changes gets the next number, so that a page can be told what it doesn't know yet."""
+    """All that pages show. Each change gets the next number, so that a page receives what it doesn't know yet."""
 
     called = "the panel"
 
@@ -117,12 +117,11 @@ class PanelState(Hearer):
             self.take(line.decode("ascii"))
 
     def exchanged(self, cabinet: int, octets: bytes, reply: bytes | None) -> None:
-        """Takes what management software has asked and was answered."""
+        """Takes a request of management software and its reply."""
         self.asked.append((self.ticks, cabinet, octets, reply))
 
     async def put_in_words(self) -> None:
-        """Puts the messages that came into words, one after another: whatever else is to be done goes before the
-        next."""
+        """Puts the messages that came into words, one after another; other pending work goes before the next."""
         while self.asked:
             row = message_row(*self.asked.popleft())
             self.change += 1
@@ -147,7 +146,7 @@ class PanelState(Hearer):
         self.ending = f"the program ended: {died}" if died else None
 
     def news(self, known: int) -> dict[str, Any]:
-        """Returns what has changed since a page knew so much."""
+        """Returns what has changed since the change `known`."""
         return {
             "now": self.ticks,
             "round": self.round,
@@ -158,13 +157,13 @@ class PanelState(Hearer):
         }
 
     def outdated(self) -> list[int]:
-        """Returns the cabinets whose tables in force are others than those by which they are laid out."""
+        """Returns the cabinets whose tables in force differ from those of their layout."""
         pairs = zip(self.cabinets, self.facts)
         return [number for number, (shown, facts) in enumerate(pairs, 1) if shown.version != facts["version"]]
 
     async def greens(self) -> str:
         """Returns the greens of each cabinet's coordinated phases that are over and not long ago, as JSON. They are put
-        together cabinet by cabinet: whatever else is to be done goes before the next."""
+        together cabinet by cabinet; other pending work goes before the next."""
         parts = []
         for number, (shown, facts) in enumerate(zip(self.cabinets, self.facts), 1):
             wanted = {p for laid in facts["patterns"].values() for p in laid["coordinated"]}
@@ -175,5 +174,5 @@ class PanelState(Hearer):
 
 
 def message_row(tick: int, cabinet: int, octets: bytes, reply: bytes | None) -> list[Any]:
-    """Returns a message in words: tick, cabinet, what was asked, what was answered."""
+    """Returns a message in words: tick, cabinet, request, reply."""
     return [tick, cabinet, asked_text(octets), answered_text(reply)]

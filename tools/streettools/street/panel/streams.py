@@ -1,4 +1,4 @@
-"""Vehicles that come by chance: so many an hour onto a detector."""
+"""Vehicles that arrive at random on a detector, by a rate an hour."""
 
 import random
 from dataclasses import dataclass
@@ -12,7 +12,7 @@ MOST = 3600
 
 @dataclass
 class Stream:
-    """Vehicles on a detector: when the next comes, and when the one that is there leaves."""
+    """Vehicles on a detector: when the next arrives, and when the present one leaves."""
 
     rate: int
     next: float
@@ -27,19 +27,19 @@ class Streams:
         self.of: dict[tuple[int, int], Stream] = {}
 
     def set(self, cabinet: int, phase: int, rate: int, now: int) -> None:
-        """Lets so many vehicles an hour come from now on; with 0 none."""
+        """Sets the rate from now on, in vehicles an hour; 0 stops the stream."""
         if rate:
             self.of[cabinet, phase] = Stream(rate, now + self.gap(rate))
         elif (cabinet, phase) in self.of:
             self.of[cabinet, phase].rate = 0
 
     def restart(self) -> None:
-        """Begins anew at tick 0, where no vehicle is on a detector."""
+        """Begins again at tick 0, when detectors are off."""
         for it in self.of.values():
             it.next, it.leaves = self.gap(it.rate) if it.rate else 0, None
 
     def gap(self, rate: int) -> float:
-        """Draws the ticks until the next vehicle, at least those for which one stays and one more."""
+        """Draws the ticks until the next vehicle: at least those for which a vehicle stays, and one more."""
         return max(STAYS + 1, self.draw.expovariate(rate / HOUR))
 
     def rates(self) -> dict[str, int]:
@@ -47,7 +47,7 @@ class Streams:
         return {f"{cabinet} {phase}": it.rate for (cabinet, phase), it in self.of.items() if it.rate}
 
     def due(self, now: int) -> list[bytes]:
-        """Returns the inputs that are due by a tick."""
+        """Returns the inputs that are pending by a tick."""
         found = []
         for (cabinet, phase), it in list(self.of.items()):
             if it.leaves is not None and it.leaves <= now:
