@@ -63,8 +63,8 @@ def read(given: object) -> Drawing:
         rings.append([()] * len(rings[0]))
     if len(rings[0]) != len(rings[1]):
         raise Wrong(
-            f"ring 1 has {len(rings[0]) - 1} barriers and ring 2 {len(rings[1]) - 1}: both cross each barrier "
-            "together; draw - where a ring has no phase"
+            f"the line of ring 1 has {len(rings[0]) - 1} of the bars |, and that of ring 2 {len(rings[1]) - 1}: both "
+            "rings cross each barrier together; draw - where a ring has no phase"
         )
     drawing = Drawing(tuple(zip(rings[0], rings[1], strict=True)))
     drawn = [*drawing.ring(1), *drawing.ring(2)]

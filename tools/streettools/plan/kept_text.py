@@ -23,36 +23,41 @@ def with_splits(text: str, changes: list[tuple[int, Change]], aim: Street) -> st
     except TOMLKitError:
         return None
     for number, change in changes:
-        times = times_of(sheet["intersection"][number - 1], change)
-        if times is None or not put(times, change.after, aim.names.intersection(number).partners):
+        row = row_of(sheet["intersection"][number - 1], change)
+        if row is None:
             return None
-    made = tomlkit.dumps(sheet)
-    return made if comes_to(made, aim) else None
+        made = put(row["splits"], change.after, aim.names.intersection(number).partners)
+        if made is not None:
+            row["splits"] = tomlkit.inline_table()
+            row["splits"].update(made)
+    said = tomlkit.dumps(sheet)
+    return said if comes_to(said, aim) else None
 
 
-def put(times: MutableMapping, after: dict[int, int], partners: list[int]) -> bool:
-    """Puts times into the splits of a sheet, in which a name may mean several phases; returns whether these still have
-    one time. A partner that the sheet doesn't name gets its time by itself."""
+def put(times: MutableMapping, after: dict[int, int], partners: list[int]) -> dict[str, int] | None:
+    """Puts times into the splits of a sheet. A name may mean several phases: if their times differ now, nothing is put,
+    and splits in which each of them has a name of its own are returned. A partner that the sheet doesn't name gets its
+    time by itself."""
     left = dict(after)
-    for key, before in list(times.items()):
-        phases = [int(word) for word in key.replace(",", " ").split()]
-        new = {left.pop(phase, before) for phase in phases}
-        if len(new) > 1:
-            return False
-        if new != {before}:
-            times[key] = new.pop()
-    for phase, time in left.items():
-        if phase not in partners:
-            times[str(phase)] = time
-    return True
+    made: dict[str, int] = {}
+    for key, before in times.items():
+        new = {word: left.pop(int(word), before) for word in key.replace(",", " ").split()}
+        made |= new if len(set(new.values())) > 1 else {key: new.popitem()[1]}
+    made |= {str(phase): time for phase, time in left.items() if phase not in partners}
+    if not set(times) <= set(made):
+        return made
+    for key, time in made.items():
+        if times.get(key) != time:
+            times[key] = time
+    return None
 
 
-def times_of(intersection: MutableMapping, change: Change) -> MutableMapping | None:
-    """Returns where a sheet says the times of a change's split: with the pattern, or with the split."""
+def row_of(intersection: MutableMapping, change: Change) -> MutableMapping | None:
+    """Returns the table in which a sheet has the splits of a change: the pattern's, or the split's."""
     for name, number in (("pattern", change.pattern), ("split", change.split)):
         row = intersection.get(name, {}).get(str(number), {})
         if "splits" in row:
-            return row["splits"]
+            return row
     return None
 
 

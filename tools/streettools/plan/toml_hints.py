@@ -4,6 +4,7 @@ import re
 
 HINTS: tuple[tuple[str, str], ...] = (
     (r"=\s*(?:2[4-9]|[3-9]\d):\d\d", "a day has 24 hours: half past midnight is 00:30:00"),
+    (r"=\s*\d:\d\d(?!:|\d)", "a time of day has two digits for the hours, and its seconds too, as 07:30:00"),
     (r"=\s*\d\d?:\d\d(?!:|\d)", "a time of day has its seconds too, as 07:30:00"),
     (r"=\s*\d:\d\d:", "the hours of a time of day have two digits, as 07:30:00"),
     (r"=[^#]*[\u201c\u201d\u2018\u2019]", 'quotes are the plain ones: "'),

@@ -5,7 +5,7 @@ from collections.abc import Iterator
 
 from ..shared.cells import PREEMPTS, value
 from ..shared.tables import Tables
-from . import conflicts, event_checks, schedule_checks, sheet_checks, tight, time_checks, transition
+from . import conflicts, event_checks, lagging, schedule_checks, sheet_checks, tight, time_checks, transition
 from .findings import Finding, warn
 from .names import Names
 from .reading import Street
@@ -29,6 +29,7 @@ def all_of(street: Street, tables: list[Tables], sound: list[bool]) -> Iterator[
         yield from conflicts.unusual(it, names.intersection(number), names.called(number))
         yield from time_checks.of_cabinet(it, number, names)
         yield from of_preempts(it, number, names)
+    yield from lagging.all_of(tables, sound, names)
     yield from tight.all_of(tables, sound, names)
     yield from schedule_checks.all_of(street, tables)
     yield from event_checks.all_of(street, tables)

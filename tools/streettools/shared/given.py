@@ -277,7 +277,8 @@ class Given:
         for name in self.table:
             if name not in known:
                 home = (homes or {}).get(name)
-                near = difflib.get_close_matches(name, known, 1)
+                begun = [it for it in known if name.startswith(f"{it}_")]
+                near = begun or difflib.get_close_matches(name, known, 1)
                 hint = f" here; write it in {home}" if home else f"; did you mean {near[0]}?" if near else ""
                 self.fault("is unknown" + hint, name)
 

@@ -179,7 +179,8 @@ def test_a_split_of_several_phases_is_said_once_and_mended_in_its_place(tmp_path
 def test_a_time_of_day_without_seconds_is_told(tmp_path, text):
     (tmp_path / "given.toml").write_text(text)
     ran = plan("check", tmp_path / "given.toml")
-    assert ran.returncode == 2 and b"error: a time of day has its seconds too, as 07:30:00 (" in ran.stdout
+    assert ran.returncode == 2 and b"error: a time of day has " in ran.stdout
+    assert b" its seconds too, as 07:30:00 (" in ran.stdout
 
 
 HIDDEN = ["\x1b[2J", "\x1b]0;title\x07", "\u202e", "\0"]

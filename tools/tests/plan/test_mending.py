@@ -8,7 +8,7 @@ import subprocess
 import pytest
 
 from streettools.cabinet.messages import OCTETS, SET, Reply
-from streettools.plan import addresses, fix, loads, names, pattern_rules, reading, rules, sending
+from streettools.plan import addresses, fix, kept_text, loads, names, pattern_rules, reading, rules, sending
 from streettools.shared.cells import differing, with_cells
 from streettools.shared.oids import OWN
 from streettools.shared.tables import Tables
@@ -249,3 +249,10 @@ def test_the_program_takes_each_download(program):
         [program, "run"], input=json.dumps(scenario).encode(), capture_output=True, check=True
     ).stdout
     assert b"\nL 1 1 accepted 1\n" in trace and b"refused" not in trace
+
+
+def test_splits_under_one_name_get_names_of_their_own_when_they_differ():
+    """Phase 1 gives a second to phase 2; 5 and 6 keep theirs. Times that stay equal stay under one name."""
+    times = {"1 5": 13, "2 6": 41, "4 8": 36}
+    assert kept_text.put(times, {1: 12, 2: 42}, []) == {"1": 12, "5": 13, "2": 42, "6": 41, "4 8": 36}
+    assert kept_text.put(times, {1: 12, 5: 12, 2: 42, 6: 42}, []) is None and times == {"1 5": 12, "2 6": 42, "4 8": 36}

@@ -251,8 +251,8 @@ FOUND = {
     ),
     "a ring without phases": (
         {RINGS: '["1 2 | 3 4", ""]'},
-        "intersection 1 (Front St), rings: error: ring 1 has 1 barriers and ring 2 0: both cross each barrier "
-        "together; draw - where a ring has no phase",
+        "intersection 1 (Front St), rings: error: the line of ring 1 has 1 of the bars |, and that of ring 2 0: "
+        "both rings cross each barrier together; draw - where a ring has no phase",
     ),
     "an intersection of another section": (
         {"clock = 06:29:00\nrings": "clock = 06:29:00\nsection = 2\nrings"},

@@ -195,6 +195,7 @@ def test_detectors_are_timed_in_rounds():
         ("4 = {yellow = 35}", "35 s is not 0 to 25.5: are tenths meant? The sheet has seconds, so write 3.5"),
         ("4 = {min_green = 7.5}", "7.5 s: a cabinet holds whole seconds here"),
         ("4 = {yelow = 3.5}", "yelow: is unknown; did you mean yellow?"),
+        ("4 = {walk_time = 7}", "walk_time: is unknown; did you mean walk?"),
         ('4 = {recall = "often"}', "found 'often'"),
         ("17 = {yellow = 3.5}", "'17' is not a phase from 1 to 16"),
         ("4 = {walk = true}", "expected a number, found True"),
