@@ -6,7 +6,8 @@ docs/DEFINITIONS.md, "What coordination promises, left undisturbed".
 """
 
 from collections import defaultdict
-from dataclasses import dataclass
+from collections.abc import Iterator
+from dataclasses import dataclass, replace
 
 from model.names import Scalar
 from model.plan import is_defined, pattern
@@ -70,29 +71,56 @@ def go_on(street: Street, watch: Watch, number: int, told: list, shown: Seen, be
     return Tick(number, is_disturbed, watch.command, shown)
 
 
-def ticks(street: Street) -> list[Tick]:
-    """Returns all ticks of a cabinet."""
+def stretches(street: Street) -> Iterator[tuple[Tick, int]]:
+    """Yields the ticks of a cabinet at which something may be other than before, each with the last tick up to which
+    all stays as it is there: behind it, only the mode can be a disturbance."""
     told = defaultdict(list)
     for order in street.orders:
         told[order.tick + 1].append(order)
     at_tick = {seen.tick: seen for seen in street.seen}
-    watch, shown, found = Watch(street.setup.clock, street.setup.pattern), street.seen[0], []
-    for number in range(1, street.ticks + 1):
+    stops = iter(sorted({*told, *at_tick, street.ticks + 1}))
+    watch, shown, number, stop = Watch(street.setup.clock, street.setup.pattern), street.seen[0], 0, 0
+    while number < street.ticks:
+        number += 1
         before, shown = shown, at_tick.get(number, shown)
-        found.append(go_on(street, watch, number, told[number], shown, before))
-    return found
+        tick = go_on(street, watch, number, told[number], shown, before)
+        while stop <= number:
+            stop = next(stops)
+        end = min(stop - 1, street.ticks, number + steady(street, watch, shown, number))
+        watch.clock += rise_over(street, number, end)
+        yield tick, end
+        number = end
+
+
+def steady(street: Street, watch: Watch, shown: Seen, number: int) -> int:
+    """Returns for how many ticks behind one the clock can't pass midnight and the backup time doesn't end."""
+    of_day = (DAY - 1 - watch.clock) // 2
+    backup = 10 * street.tables(shown).unit(BACKUP_TIME)
+    return min(of_day, watch.commanded + backup - 1 - number) if backup and watch.command else of_day
+
+
+def rise_over(street: Street, start: int, end: int) -> int:
+    """Returns by how much the clock goes on behind one tick up to another."""
+    drift, rise = street.setup.drift, end - start
+    if drift.gain:
+        rise += end // drift.gain - start // drift.gain
+    if drift.lose:
+        rise -= end // drift.lose - start // drift.lose
+    return rise
 
 
 def quiet_spans(street: Street) -> list[tuple[Tick, int]]:
     """Returns each disturbance that quiet ticks follow, with the last of these ticks."""
     found: list[tuple[Tick, int]] = []
     last: Tick | None = None
-    for tick in ticks(street):
+    for tick, end in stretches(street):
         if tick.is_disturbed:
             last = tick
-        elif last is not None:
+        if tick.shown.mode.kind in DISTURBING:
+            last = replace(tick, number=end)
+        elif last is not None and last.number < end:
             if found and found[-1][0] is last:
-                found[-1] = (last, tick.number)
+                found[-1] = (last, end)
             else:
-                found.append((last, tick.number))
+                found.append((last, end))
     return found

@@ -6,6 +6,7 @@ docs/DEFINITIONS.md, "What coordination promises, left undisturbed".
 """
 
 from collections.abc import Iterator
+from dataclasses import dataclass
 
 from model.counter import ADD_ONLY, DWELL, SHORTWAY, Correction, correction
 from model.plan import is_defined, pattern
@@ -57,28 +58,68 @@ def is_near(cycle: int, seen: Seen, is_drifting: bool) -> bool:
     return apart in (0, 1, cycle - 1) if is_drifting else apart == 0
 
 
-def after(street: Street, disturbed: Tick, last: int) -> Iterator[str]:
-    """Yields what is wrong in the ticks after a disturbance, up to the last quiet one."""
+@dataclass(frozen=True)
+class Settled:
+    """Ticks, from the first to the last, at each of which counter and target are equal by this promise, to within a
+    tick if the clock drifts."""
+
+    first: int
+    last: int
+    cycle: int
+    is_drifting: bool
+
+
+def zero_bound(street: Street, disturbed: Tick) -> int:
+    """Returns the number of ticks after a disturbance within which a local zero follows."""
     tables, number = street.tables(disturbed.shown), disturbed.command
-    if not is_defined(tables, number):
-        return
-    may, cycle = correction(tables), pattern(tables, number).cycle
-    longest = longest_cycle(may, cycle)
-    bound = max(pickup_bound(street.versions[: disturbed.shown.version + 1]), longest)
+    longest = longest_cycle(correction(tables), pattern(tables, number).cycle)
+    return max(pickup_bound(street.versions[: disturbed.shown.version + 1]), longest)
+
+
+def settled_after(street: Street, disturbed: Tick, last: int) -> Settled | None:
+    """Returns the ticks after a disturbance, up to the last quiet one, to which this promise applies: those after the
+    bound of the offset. Returns None if there are none."""
+    tables, number, drift = street.tables(disturbed.shown), disturbed.command, street.setup.drift
+    may = correction(tables)
+    if not is_defined(tables, number) or (drift.gain and may.mode != SHORTWAY):
+        return None
+    bound, cycle = zero_bound(street, disturbed), pattern(tables, number).cycle
     if last - disturbed.number < bound:
-        return
+        return None
     found = zeros_in(street, number, disturbed.number + 1, disturbed.number + bound)
     if not found:
+        return None
+    is_drifting = bool(drift.gain or drift.lose)
+    cycles = (1 + is_drifting) * needed(may, cycle, found[0].target)
+    first = disturbed.number + bound + cycles * longest_cycle(may, cycle)
+    return Settled(first, last, cycle, is_drifting) if first <= last else None
+
+
+def settled(street: Street) -> Iterator[Settled]:
+    """Yields the ticks of a street to which this promise applies, in order."""
+    for disturbed, last in quiet_spans(street):
+        if found := settled_after(street, disturbed, last):
+            yield found
+
+
+def after(street: Street, disturbed: Tick, last: int) -> Iterator[str]:
+    """Yields what is wrong in the ticks after a disturbance, up to the last quiet one."""
+    number = disturbed.command
+    if not is_defined(street.tables(disturbed.shown), number):
+        return
+    bound = zero_bound(street, disturbed)
+    if last - disturbed.number < bound:
+        return
+    if not zeros_in(street, number, disturbed.number + 1, disturbed.number + bound):
         yield f"tick {disturbed.number}: no local zero of pattern {number} within {bound} ticks"
         return
-    drift = street.setup.drift
-    if drift.gain and may.mode != SHORTWAY:
+    due = settled_after(street, disturbed, last)
+    if due is None:
         return
-    is_drifting = bool(drift.gain or drift.lose)
-    met = disturbed.number + bound + (1 + is_drifting) * needed(may, cycle, found[0].target) * longest
     for seen in street.seen:
-        if met <= seen.tick <= last and not is_near(cycle, seen, is_drifting):
-            yield f"tick {seen.tick}: counter {seen.counter}, target {seen.target}, met by tick {met} by the promise"
+        if due.first <= seen.tick <= last and not is_near(due.cycle, seen, due.is_drifting):
+            told = f"counter {seen.counter}, target {seen.target}"
+            yield f"tick {seen.tick}: {told}, met by tick {due.first} by the promise"
 
 
 def offset(street: Street) -> Iterator[str]:

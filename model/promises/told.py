@@ -157,10 +157,8 @@ class Lines:
 
     def may(self, kind: str, *more: str) -> list[str] | None:
         """Takes the next line if it begins with these words."""
-        try:
-            return self.words(kind, *more)
-        except Untold:
-            return None
+        words = self.lines[self.at].split(" ", 1 + len(more)) if self.at < len(self.lines) else []
+        return self.words(kind, *more) if words[: 1 + len(more)] == [kind, *more] else None
 
 
 def hear_round(lines: Lines, street: Street) -> None:

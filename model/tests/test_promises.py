@@ -2,10 +2,13 @@
 
 import json
 from pathlib import Path
+from types import SimpleNamespace
 
 import pytest
 
 from model.commands import answer
+from model.orders import Drift
+from model.promises import disturbances, offset, told
 from model.promises.judging import broken_promises
 
 VECTORS = Path(__file__).resolve().parents[2] / "vectors"
@@ -108,3 +111,60 @@ def test_lines_out_of_order_are_no_trace():
 def test_traces_of_the_vectors_keep_all_promises():
     files = sorted(VECTORS.glob("*/*.trace"))[::3]
     assert files and all(broken_promises(file.read_bytes()) == [] for file in files)
+
+
+def tick_by_tick(street):
+    """Returns what `quiet_spans` has, from every tick: the number of each disturbance that quiet ticks follow, with the
+    last of them."""
+    orders, seen = {}, {it.tick: it for it in street.seen}
+    for order in street.orders:
+        orders.setdefault(order.tick + 1, []).append(order)
+    watch, shown = disturbances.Watch(street.setup.clock, street.setup.pattern), street.seen[0]
+    spans, last = {}, 0
+    for number in range(1, street.ticks + 1):
+        before, shown = shown, seen.get(number, shown)
+        if disturbances.go_on(street, watch, number, orders.get(number, []), shown, before).is_disturbed:
+            last = number
+        elif last:
+            spans[last] = number
+    return spans
+
+
+COMMANDED = {"version": 1, "rounds": 30, "ticks": 100, "cabinets": [{"pattern": 1, "cells": [["unit", 5, 70]]}]}
+LONGER = [["pattern", 1, 2, 91], ["split", 1, 2, 3, 31], ["split", 1, 6, 3, 31]]
+MIDNIGHT = {"cells": LONGER, "pattern": 1, "clock": 862_500}
+
+
+@pytest.mark.parametrize(
+    "scenario",
+    [
+        PREEMPT,
+        DOWNLOAD,
+        COMMANDED,
+        {"version": 1, "rounds": 4, "ticks": 600, "cabinets": [MIDNIGHT]},
+    ],
+    ids=["a preempt", "a download", "the backup time", "midnight"],
+)
+def test_spans_that_are_jumped_over_are_those_of_every_tick(scenario):
+    _, streets = told.streets_of(trace(scenario))
+    for street in streets:
+        found = {disturbed.number: last for disturbed, last in disturbances.quiet_spans(street)}
+        assert found and found == tick_by_tick(street)
+
+
+@pytest.mark.parametrize("drift", [Drift(), Drift(gain=12_000), Drift(lose=13_000)])
+def test_a_clock_goes_on_over_many_ticks_as_over_each(drift):
+    street = told.Street(1, SimpleNamespace(drift=drift), [])
+    for start, end in ((0, 11_999), (0, 12_000), (11_999, 12_000), (12_000, 26_001), (12_999, 13_000)):
+        due = sum(disturbances.rise(street, number) for number in range(start + 1, end + 1))
+        assert disturbances.rise_over(street, start, end) == due
+
+
+@pytest.mark.parametrize(("clock", "first"), [(840, 1_259), (841, 59 + 4 * 1_200)], ids=["on the offset", "899 ahead"])
+def test_the_promise_speaks_of_the_ticks_behind_its_bound(clock, first):
+    """Start-up ends with tick 59, and the bound is a cycle of 900 ticks with its dwell of 300. At clock 840 the pickup
+    is on the offset; at 841 the counter is 899 ticks ahead, which three more cycles correct."""
+    cabinet = {"pattern": 1, "clock": clock, "cells": [["unit", 2, 300]]}
+    text = trace({"version": 1, "rounds": 9, "ticks": 600, "cabinets": [cabinet]})
+    (street,) = told.streets_of(text)[1]
+    assert [(it.first, it.last) for it in offset.settled(street)] == [(first, 5_400)]

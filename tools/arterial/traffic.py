@@ -6,7 +6,7 @@ from typing import Any
 
 import numpy
 
-from streettools.cosim import report
+from streettools.cosim import report, undisturbed
 from streettools.cosim.queues import checks
 from streettools.cosim.queues.demand import demand_of
 from streettools.cosim.queues.session import Cabinets
@@ -108,7 +108,9 @@ class Queues:
         street, asked = self.street, Asked(self.steps.seconds, self.steps.ticks)
         self.signals.close(self.steps.seconds)
         ran = Ran(self.volumes, asked, street, self.signals, street.demand, len(self.queues), None)
-        return report.collect(study_of(ran, pathlib.Path("session.trace")), self.signals.greens)
+        study = study_of(ran, pathlib.Path("session.trace"))
+        quiet = undisturbed.shares(self.trace(), 0.0, study.seconds) if self.cabinets.records else {}
+        return report.collect(study, self.signals.greens, report.More(undisturbed=quiet))
 
     def trace(self) -> bytes:
         """Returns the trace of a run that has ended and was kept."""

@@ -4,6 +4,7 @@ import argparse
 import json
 import pathlib
 import tempfile
+from collections.abc import Sequence
 from types import ModuleType
 from typing import Any
 
@@ -14,7 +15,9 @@ from ..shared.progress import bar
 from ..shared.saying import say, say_replaced
 from ..shared.status import Status
 from . import comparing, comparing_queues, verdicts
-from .comparison import Result, Row, Terms, do_all, rows_of
+from .comparison import Named, Result, Row, Terms, do_all, rows_of, undisturbed_of, without_folders_of_before
+from .growing import Grown, grown, width_of, with_seed
+from .seeds import added
 from .totals import ALL, Mean
 
 EXAMPLES = """\
@@ -62,7 +65,7 @@ def table(rows: list[tuple[str, ...]]) -> list[str]:
     return lines
 
 
-def text_of(terms: Terms, rows: list[Row]) -> str:
+def text_of(terms: Terms, rows: list[Row], quiet: dict[str, float | None]) -> str:
     """Returns the table as text, group by group, and what it says of all vehicles."""
     lines = [
         f"{len(terms.seeds)} seeds, {terms.seconds:g} s each, steps of {terms.step:g} s;"
@@ -76,10 +79,24 @@ def text_of(terms: Terms, rows: list[Row]) -> str:
             cells.append((it.plan, f"{it.trips:.0f}", *map(shown, means), verdicts.word(it.more_delay)))
         lines += ["", group, *table(cells)]
     said = list(verdicts.sentences(terms, [it for it in rows if it.group == ALL]))
-    return "\n".join([*lines, "", *said]) + "\n"
+    more = [*verdicts.of_width(terms, width_of(terms, rows)), *verdicts.of_quiet(quiet)]
+    return "\n".join([*lines, "", *said, *more]) + "\n"
 
 
-def document_of(terms: Terms, rows: list[Row]) -> dict[str, Any]:
+def width_document(terms: Terms, rows: list[Row]) -> dict[str, Any] | None:
+    """Returns what JSON has of the wanted width; None if none was wanted."""
+    if terms.wanted is None:
+        return None
+    reached = width_of(terms, rows)
+    return {
+        "wanted": terms.wanted.width,
+        "reached": reached,
+        "is_reached": reached is not None and reached <= terms.wanted.width,
+        "most_seeds": terms.wanted.most_seeds,
+    }
+
+
+def document_of(terms: Terms, rows: list[Row], quiet: dict[str, float | None]) -> dict[str, Any]:
     """Returns the table as JSON has it."""
 
     def pair(mean: Mean | None) -> list | None:
@@ -91,6 +108,8 @@ def document_of(terms: Terms, rows: list[Row]) -> dict[str, Any]:
         "step": terms.step,
         "warm": terms.warm,
         "against": terms.against,
+        "width": width_document(terms, rows),
+        "undisturbed": quiet,
         "rows": [
             {
                 "plan": it.plan,
@@ -100,6 +119,8 @@ def document_of(terms: Terms, rows: list[Row]) -> dict[str, Any]:
                 "stops": pair(it.stops),
                 "more_delay": pair(it.more_delay),
                 "more_stops": pair(it.more_stops),
+                "delay_p": it.delay_p,
+                "stops_p": it.stops_p,
                 "delay_differs": verdicts.verdict(it.more_delay),
                 "stops_differ": verdicts.verdict(it.more_stops),
             }
@@ -128,15 +149,29 @@ def with_walks(comparison: comparing.Comparison) -> comparing.Comparison:
     return found
 
 
-def ran(kind: ModuleType, jobs: list[Any], workers: int) -> list[Result]:
-    """Does all runs."""
-    progress = bar(len(jobs), "run")
+def ran(kind: ModuleType, terms: Terms, plans: Sequence[Named], jobs: list[Any], words: argparse.Namespace) -> Grown:
+    """Does all runs, with as many seeds as the terms want."""
+    progress = bar(0, "run")
+
+    def do(some: list[Any]) -> list[Result]:
+        if progress is None:
+            return do_all(some, kind.do, kind.pool_of(words.workers), lambda count: None)
+        progress.total += len(some)
+        return do_all(some, kind.do, kind.pool_of(words.workers), progress.update)
+
     try:
-        advance = progress.update if progress is not None else lambda count: None
-        return do_all(jobs, kind.do, kind.pool_of(workers), advance)
+        return grown(terms, plans, jobs, 1 if words.keep else max(1, words.workers // len(plans)), do)
     finally:
         if progress is not None:
             progress.close()
+
+
+def without_later_folders(terms: Terms, plans: Sequence[Named], jobs: list[Any]) -> None:
+    """Refuses folders of seeds that may be added, and that are there already."""
+    if terms.wanted is not None:
+        more = added(terms.seeds, terms.wanted.most_seeds - len(terms.seeds))
+        outs = [with_seed(job, seed).out for seed in more for job in jobs[: len(plans)]]
+        without_folders_of_before([it for it in outs if it is not None])
 
 
 def main(given: list[str]) -> int:
@@ -152,19 +187,27 @@ def main(given: list[str]) -> int:
     jobs = kind.jobs_of(comparison, words.program, words.output or pathlib.Path(tempfile.gettempdir()), words.keep)
     if words.output is None and kind is comparing:
         raise Fault("a comparison under SUMO needs -o FOLDER, in which SUMO writes")
-    results = ran(kind, jobs, words.workers)
-    rows = rows_of(comparison.terms, comparison.plans, jobs, results)
-    text = text_of(comparison.terms, rows)
-    document = json.dumps(document_of(comparison.terms, rows), indent=1) + "\n"
+    if words.keep:
+        without_later_folders(comparison.terms, comparison.plans, jobs)
+    done = ran(kind, comparison.terms, comparison.plans, jobs, words)
+    write(words, done, comparison.plans)
+    if kind is comparing:
+        tell(done.terms, done.jobs, done.results)
+    return Status.DONE
+
+
+def write(words: argparse.Namespace, done: Grown, plans: Sequence[Named]) -> None:
+    """Writes the table."""
+    rows = rows_of(done.terms, plans, done.jobs, done.results)
+    quiet = undisturbed_of(plans, done.jobs, done.results)
+    text = text_of(done.terms, rows, quiet)
+    document = json.dumps(document_of(done.terms, rows, quiet), indent=1) + "\n"
     if words.output is not None:
         say_replaced("cosim", words.output / "comparison.json")
         words.output.mkdir(parents=True, exist_ok=True)
         (words.output / "comparison.txt").write_text(text, encoding="utf-8")
         (words.output / "comparison.json").write_text(document, encoding="utf-8")
     print(document if words.json else text, end="")
-    if kind is comparing:
-        tell(comparison.terms, jobs, results)
-    return Status.DONE
 
 
 def tell(terms: Terms, jobs: list[comparing.Job], results: list[Result]) -> None:

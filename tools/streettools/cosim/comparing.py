@@ -9,7 +9,7 @@ from typing import Any
 from ..shared.fault import Fault
 from ..shared.given import Given, read_toml
 from ..shared.program import found
-from . import drive, network, run, yardsticks
+from . import drive, network, run, undisturbed, yardsticks
 from .comparison import Result, Terms, terms_of, with_offsets, without_folders_of_before
 from .drive import read_config
 from .loop import Given as RunGiven
@@ -138,7 +138,7 @@ def do(job: Job) -> Result:
 
 def done_in(job: Job, out: pathlib.Path) -> Result:
     """Does a run in a folder, and returns what it came to; one that ended before its time is a fault."""
-    given = given_of(job.comparison, job.plan, job.seed)
+    given, quiet = given_of(job.comparison, job.plan, job.seed), {}
     if job.program is None:
         trips, times = yardsticks.run(given, job.plan.controller, out, lambda count: None)
     else:
@@ -146,8 +146,9 @@ def done_in(job: Job, out: pathlib.Path) -> Result:
         if done.fault or done.study is None:
             raise Fault(f"plan {job.plan.name}, seed {job.seed}: {done.fault or 'nothing was recorded'}")
         trips, times = done.study.trips, done.times
+        quiet = undisturbed.shares(done.study.trace.read_bytes(), given.warm, given.seconds - given.warm)
     kept = counted(trips, given.warm, given.seconds)
-    return Result(totals_of(kept, job.comparison.terms.routes), times)
+    return Result(totals_of(kept, job.comparison.terms.routes), times, undisturbed.mean(quiet))
 
 
 def jobs_of(comparison: Comparison, program: str | None, out: pathlib.Path, keep: bool) -> list[Job]:

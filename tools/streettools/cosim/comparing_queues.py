@@ -10,11 +10,13 @@ from ..shared.fault import Fault
 from ..shared.given import Given
 from ..shared.program import answering, ran
 from ..shared.saying import say
+from . import undisturbed
 from .comparison import Result, Terms, terms_of, with_offsets, without_folders_of_before
 from .loop import Times
 from .queues import checks, keeping
 from .queues import study as queue_study
 from .queues.given import Street, fitted, read_street, read_volumes
+from .queues.routes import is_route
 from .queues.volumes import Volumes
 from .records import Kind, Study
 from .totals import Total, counted, totals_of
@@ -24,20 +26,20 @@ STEPS = (0.1, 0.2, 0.5, 1)
 
 @dataclass(frozen=True)
 class Plan:
-    """A plan that is compared: its name, its sheet or scenario, and offsets in seconds that are put into a pattern, or
-    into the one in command."""
+    """A plan that is compared: its name, its sheet or scenario, offsets in seconds that are put into a pattern, or into
+    the one in command, and the volumes, those of the comparison or its own."""
 
     name: str
     scenario: pathlib.Path
     offsets: tuple[int, ...]
     pattern: int | None
+    volumes: pathlib.Path
 
 
 @dataclass(frozen=True)
 class Comparison:
-    """A whole comparison: the volumes, the plans, and on what terms they are compared."""
+    """A whole comparison: the plans, and on what terms they are compared."""
 
-    volumes: pathlib.Path
     plans: tuple[Plan, ...]
     terms: Terms
 
@@ -64,10 +66,12 @@ def of(given: Given, folder: pathlib.Path) -> Comparison:
         name = row.need("name", str)
         row.place = f"plan {name}: "
         scenario = folder / row.need("scenario", str)
-        return Plan(name, scenario, row.numbers("offsets", 255), row.within("pattern", int, 1, 48))
+        offsets, pattern = row.numbers("offsets", 255), row.within("pattern", int, 1, 48)
+        return Plan(name, scenario, offsets, pattern, folder / row.take("volumes", str, volumes))
 
+    volumes = given.need("volumes", str)
     plans = given.each("plan", plan_of)
-    return Comparison(folder / given.need("volumes", str), plans, terms_of(given, plans, STEPS, 1))
+    return Comparison(plans, terms_of(given, plans, STEPS, 1))
 
 
 def street_of(plan: Plan) -> Street:
@@ -85,19 +89,40 @@ def names_of(streets: list[Street]) -> tuple[str, ...]:
     )
 
 
+def groups_in(volumes: Volumes) -> set[str]:
+    """Returns what can be compared of volumes, in words: the cabinets that vehicles pass, and persons."""
+    groups = {f"vehicles at cabinet {it.cabinet}" for it in volumes.flows}
+    return groups | ({"persons"} if volumes.crossings else set())
+
+
+def same_groups(terms: Terms, volumes: dict[str, Volumes]) -> None:
+    """Refuses plans whose volumes haven't the same groups, and routes that one of them hasn't."""
+    against = groups_in(volumes[terms.against])
+    for name, own in volumes.items():
+        groups = groups_in(own)
+        for group in sorted(groups ^ against):
+            have, lack = (name, terms.against) if group in groups else (terms.against, name)
+            raise Fault(f"plan {name}: the volumes of plan {have} have {group}, those of plan {lack} haven't")
+        for route in terms.routes:
+            if not is_route(own, route):
+                raise Fault(f"plan {name}: its volumes have no route {route}")
+
+
 def jobs_of(comparison: Comparison, program: str | None, out: pathlib.Path, keep: bool) -> list[Job]:
     """Returns all runs of a comparison, seed by seed; what is wrong with one of them is said before anything runs."""
     path, terms = str(answering(program, lambda line: say("cosim", line), is_long=True)), comparison.terms
-    volumes, rows = read_volumes(comparison.volumes), []
+    read = {path: read_volumes(path) for path in dict.fromkeys(it.volumes for it in comparison.plans)}
+    rows = []
     for place, plan in enumerate(comparison.plans, 1):
         street = street_of(plan)
-        fits = fitted(volumes, street)
+        fits = fitted(read[plan.volumes], street)
         try:
             checks.check(fits, street.scenario, terms.seconds)
             ran(path, "live", given=json.dumps(street.scenario).encode()).done()
         except Fault as fault:
             raise Fault(f"plan {plan.name}: {fault}", fault.status) from None
         rows.append((place, plan, fits, street))
+    same_groups(terms, {plan.name: fits for _, plan, fits, _ in rows})
     called = names_of([street for *_, street in rows])
     jobs = [
         Job(plan, seed, terms, fits, street, called, path, out / f"{place:02}-{seed}" if keep else None)
@@ -111,13 +136,14 @@ def jobs_of(comparison: Comparison, program: str | None, out: pathlib.Path, keep
 def do(job: Job) -> Result:
     """Does a run, and returns what it came to."""
     begun, terms = time.perf_counter(), job.terms
-    asked = queue_study.Asked(terms.seconds, round(10 * terms.step), job.seed, terms.warm, False, job.out is not None)
+    asked = queue_study.Asked(terms.seconds, round(10 * terms.step), job.seed, terms.warm, keeps_trace=True)
     came = queue_study.run(job.program, job.volumes, job.street.scenario, asked, lambda step: None)
     study = queue_study.study_of(came, (job.out or pathlib.Path()) / keeping.TRACE)
     if job.out is not None:
-        keeping.write(job.out, came, study, job.street)
-    whole = time.perf_counter() - begun
-    return Result(totals(study, job), Times(whole=whole, steps=round(terms.seconds / terms.step)))
+        keeping.write(job.out, came, study, job.street, keeping.value_of(came, study, job.street))
+    quiet = undisturbed.mean(undisturbed.shares(came.trace or b"", terms.warm, terms.seconds - terms.warm))
+    times = Times(whole=time.perf_counter() - begun, steps=round(terms.seconds / terms.step))
+    return Result(totals(study, job), times, quiet)
 
 
 def totals(study: Study, job: Job) -> dict[str, Total]:

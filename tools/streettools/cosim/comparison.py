@@ -12,10 +12,8 @@ from ..shared.fault import Fault
 from ..shared.given import NUMBER, Given
 from ..shared.status import Status
 from .loop import Times
-from .totals import Mean, Total, mean_of
-
-MOST_SEEDS = 1000
-
+from .seeds import Wanted, begun, seeds_of, wanted_of
+from .totals import Mean, Total, mean_of, paired_p
 
 class Named(Protocol):
     """A plan by its name."""
@@ -27,7 +25,8 @@ class Named(Protocol):
 @dataclass(frozen=True)
 class Terms:
     """On what terms plans are compared: the seeds, the seconds of a step and of a run, those that are cut off at both
-    ends, the routes that are shown, and the plan with which the others are compared."""
+    ends, the routes that are shown, the plan with which the others are compared, and the wanted width of the intervals
+    of the difference in delay, None if the seeds are all that are run."""
 
     seeds: tuple[int, ...]
     step: float
@@ -35,14 +34,17 @@ class Terms:
     warm: float
     routes: tuple[str, ...]
     against: str
+    wanted: Wanted | None = None
 
 
 @dataclass
 class Result:
-    """What a run came to: totals by group, times."""
+    """What a run came to: totals by group, times, and the share of the time in which coordination was undisturbed, None
+    where that isn't known."""
 
     totals: dict[str, Total]
     times: Times
+    undisturbed: float | None = None
 
 
 class Job(Protocol):
@@ -54,18 +56,11 @@ class Job(Protocol):
     @property
     def seed(self) -> int: ...
 
+    @property
+    def out(self) -> pathlib.Path | None: ...
+
 
 Each = TypeVar("Each", bound=Job)
-
-
-def seeds_of(given: Given) -> tuple[int, ...]:
-    """Reads the seeds: a list, or how many there are, from 1 on."""
-    if isinstance(given.table.get("seeds"), int) and not isinstance(given.table["seeds"], bool):
-        return tuple(range(1, 1 + given.within("seeds", int, 1, MOST_SEEDS)))
-    seeds = given.numbers("seeds") or (1, 2, 3)
-    if len(set(seeds)) < len(seeds):
-        raise given.refuse("seeds", "has one twice")
-    return seeds
 
 
 def terms_of(given: Given, plans: Sequence[Named], steps: tuple[float, ...], usual: float) -> Terms:
@@ -78,13 +73,15 @@ def terms_of(given: Given, plans: Sequence[Named], steps: tuple[float, ...], usu
         raise given.refuse("step", "has to be " + " or ".join(f"{it:g}" for it in steps))
     if against not in names:
         raise given.refuse("against", f"is {against}, and no plan has this name")
+    wanted = wanted_of(given)
     found = Terms(
-        seeds_of(given),
+        begun(given, seeds_of(given), wanted),
         float(step),
         given.within("seconds", NUMBER, 1, 86_400, 3600),
         given.within("warm", NUMBER, 0, 43_200, 0),
         given.texts("routes"),
         against,
+        wanted,
     )
     given.end()
     if 2 * found.warm >= found.seconds:
@@ -138,7 +135,8 @@ def do_all(
 @dataclass
 class Row:
     """A plan's numbers in one group: how many trips a run has, delay and stops with their intervals, and how much more
-    these are than those of the plan that stands against (None for that plan itself)."""
+    these are than those of the plan that stands against (None for that plan itself), with the p values of the paired t
+    test."""
 
     plan: str
     group: str
@@ -147,6 +145,8 @@ class Row:
     stops: Mean
     more_delay: Mean | None
     more_stops: Mean | None
+    delay_p: float | None = None
+    stops_p: float | None = None
 
 
 def whole(found: list[Total | None]) -> list[Total] | None:
@@ -166,8 +166,8 @@ def rows_of(terms: Terms, plans: Sequence[Named], jobs: Sequence[Job], results: 
             own = whole([totals[plan.name, seed].get(group) for seed in terms.seeds])
             if own is None:
                 continue
-            is_base = plan.name == terms.against or base is None
-            pairs = list(zip(own, base or ()))
+            pairs = [] if plan.name == terms.against else list(zip(own, base or ()))
+            delays, stops = [a.delay - b.delay for a, b in pairs], [a.stops - b.stops for a, b in pairs]
             rows.append(
                 Row(
                     plan.name,
@@ -175,8 +175,20 @@ def rows_of(terms: Terms, plans: Sequence[Named], jobs: Sequence[Job], results: 
                     statistics.fmean(it.trips for it in own),
                     mean_of([it.delay for it in own]),
                     mean_of([it.stops for it in own]),
-                    None if is_base else mean_of([a.delay - b.delay for a, b in pairs]),
-                    None if is_base else mean_of([a.stops - b.stops for a, b in pairs]),
+                    mean_of(delays) if delays else None,
+                    mean_of(stops) if stops else None,
+                    paired_p(delays),
+                    paired_p(stops),
                 )
             )
     return rows
+
+
+def undisturbed_of(plans: Sequence[Named], jobs: Sequence[Job], results: list[Result]) -> dict[str, float | None]:
+    """Returns, plan by plan, the share of the time in which coordination was undisturbed, over all seeds."""
+    found: dict[str, float | None] = {}
+    for plan in plans:
+        known = [it.undisturbed for job, it in zip(jobs, results) if job.plan.name == plan.name]
+        shares = [it for it in known if it is not None]
+        found[plan.name] = statistics.fmean(shares) if shares and len(shares) == len(known) else None
+    return found

@@ -8,6 +8,7 @@ from collections.abc import Iterable, Mapping
 from dataclasses import dataclass, field
 from typing import Any
 
+from . import undisturbed
 from .movements import Count, Greens, RouteCount, counts, is_of_persons, kinds, routes
 from .queues.signals import Signals
 from .records import Kind, Study
@@ -19,9 +20,11 @@ Value = dict[str, Any]
 
 @dataclass(frozen=True)
 class More:
-    """What a study doesn't have: the names of cabinets."""
+    """What a study doesn't have: the names of cabinets, and in which share of the time the coordination of each was
+    undisturbed (nothing where that isn't known)."""
 
     names: Mapping[int, str] = field(default_factory=dict)
+    undisturbed: Mapping[int, float] = field(default_factory=dict)
 
 
 def greens_in(study: Study) -> Greens:
@@ -74,10 +77,17 @@ def value_of(count: Count) -> Value:
     }
 
 
-def cabinet_value(count: Count) -> Value:
+def cabinet_value(number: int, count: Count, more: More) -> Value:
     """Returns what was counted of a cabinet."""
     value = value_of(count)
-    return {name: value[name] for name in OF_CABINET}
+    named = {"name": more.names[number]} if number in more.names else {}
+    quiet = {UNDISTURBED: rounded(more.undisturbed.get(number))}
+    return {"cabinet": number} | named | {name: value[name] for name in OF_CABINET} | quiet
+
+
+def rounded(value: float | None) -> float | None:
+    """Returns a share with three places."""
+    return None if value is None else round(value, 3)
 
 
 def route_value(count: RouteCount) -> Value:
@@ -110,10 +120,8 @@ def collect(study: Study, greens: Greens | None = None, more: More | None = None
         "seconds": study.seconds,
         "warm": study.warm,
         "kinds": [{"kind": str(kind)} | route_value(it) for kind, it in kinds(study).items()],
-        "cabinets": [
-            {"cabinet": number} | ({"name": more.names[number]} if number in more.names else {}) | cabinet_value(it)
-            for number, it in cabinets.items()
-        ],
+        UNDISTURBED: rounded(undisturbed.mean(more.undisturbed)),
+        "cabinets": [cabinet_value(number, it, more) for number, it in cabinets.items()],
         "movements": moved,
         "crossings": walked,
         "lanes": [it._asdict() for it in study.lanes],
@@ -145,6 +153,8 @@ COLUMNS = {
 """The columns of a table of movements, with their heads."""
 OF_CABINET = ("vehicles", "delay", "delay_95", "level", "stops", "on_green", "left", "split_failures")
 """The columns that a whole cabinet has: its movements have no green and no queue in common."""
+UNDISTURBED = "undisturbed"
+"""The share of the time in which coordination was undisturbed."""
 ROUTES = {"trips": "trips", "arrived": "arrived", "travel": "travel", "delay": "delay", "stops": "stops"}
 PLACED = ("cabinets", "movements", "crossings", "lanes")
 """The tables whose rows are at a cabinet."""
@@ -181,6 +191,12 @@ def placed(value: Value) -> Value:
     return value
 
 
+def cabinet_heads(value: Value) -> dict[str, str]:
+    """Returns the columns of the table of cabinets; how long coordination was undisturbed only where that is known."""
+    quiet = {} if value[UNDISTURBED] is None else {UNDISTURBED: UNDISTURBED}
+    return {"cabinet": "cabinet"} | {name: COLUMNS[name] for name in OF_CABINET} | quiet
+
+
 def text(value: Value) -> str:
     """Returns the report as tables for a terminal."""
     value = placed(value)
@@ -188,7 +204,7 @@ def text(value: Value) -> str:
     counted = f", counted from {value['warm']:g} s on" if value["warm"] else ""
     parts = [f"{head}{value['seconds']:g} s{counted}; times in seconds\n"]
     parts.append(table(value["kinds"], {"kind": "who"} | ROUTES))
-    parts.append(table(value["cabinets"], {"cabinet": "cabinet"} | {name: COLUMNS[name] for name in OF_CABINET}))
+    parts.append(table(value["cabinets"], cabinet_heads(value)))
     rows = value["movements"]
     shown = [it for it in COLUMNS if it not in ("v_c", "full") or any(row[it] is not None for row in rows)]
     heads = {"cabinet": "cabinet", "movement": "movement", "phase": "phase"} | {name: COLUMNS[name] for name in shown}

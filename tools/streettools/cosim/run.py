@@ -11,7 +11,7 @@ from ..plan.suffixes import is_sheet
 from ..shared.fault import Fault
 from ..shared.given import content_of
 from ..shared.status import Status
-from . import discharge, drive, report
+from . import discharge, drive, report, undisturbed
 from .checks import check
 from .drive import Start
 from .halts import Halt
@@ -139,7 +139,8 @@ def done(given: Given, loop: Loop, session: Session, left: "Left", out: pathlib.
         lanes=discharge.lane_flows(lanes_of(given), history, passed),
     )
     save(study, out / STUDY)
-    value = report.collect(study, more=report.More(given.names))
+    quiet = undisturbed.shares(study.trace.read_bytes(), study.warm, study.seconds)
+    value = report.collect(study, more=report.More(given.names, quiet))
     (out / f"{REPORT}.json").write_text(report.json_text(value), encoding="utf-8")
     (out / f"{REPORT}.txt").write_text(report.text(value), encoding="utf-8")
     return Done(study, loop.times, fault, loop.priority.refusals)

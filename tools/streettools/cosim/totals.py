@@ -53,6 +53,30 @@ def mean_of(values: list[float]) -> Mean:
     return Mean(value, point(len(values) - 1) * statistics.stdev(values) / math.sqrt(len(values)))
 
 
+def beyond(value: float, freedom: int) -> float:
+    """Returns how likely it is that Student's t with so many degrees of freedom is at least as far from 0, on either
+    side, as a value: by the finite sums for whole degrees of freedom (Abramowitz and Stegun, 26.7.3 and 26.7.4)."""
+    angle = math.atan(abs(value) / math.sqrt(freedom))
+    power = math.cos(angle) if freedom % 2 else 1.0
+    total = term = power if freedom > 1 else 0.0
+    for k in range(2 + freedom % 2, freedom, 2):
+        term *= math.cos(angle) ** 2 * (k - 1) / k
+        total += term
+    inner = math.sin(angle) * total
+    return max(0.0, 1.0 - (2.0 / math.pi * (angle + inner) if freedom % 2 else inner))
+
+
+def paired_p(differences: list[float]) -> float | None:
+    """Returns the p value of the paired t test: how likely differences of a mean at least as far from 0 are, if there
+    is none; None for one pair alone."""
+    if len(differences) < 2:
+        return None
+    mean, deviation = statistics.fmean(differences), statistics.stdev(differences)
+    if not deviation:
+        return 0.0 if mean else 1.0
+    return beyond(mean * math.sqrt(len(differences)) / deviation, len(differences) - 1)
+
+
 def total_of(trips: Iterable[Trip]) -> Total | None:
     """Returns the total of some trips, None if there are none."""
     rows = [(it.delay, it.stops) for it in trips]

@@ -44,3 +44,23 @@ def sentences(terms: Terms, rows: Iterable[Row]) -> Iterator[str]:
             )
         else:
             yield f"{pair}: {size} ({low:.1f} to {high:.1f} s at 95 % over {len(terms.seeds)} seeds)"
+
+
+def of_width(terms: Terms, reached: float | None) -> Iterator[str]:
+    """Yields a sentence on the wanted width, if one was wanted."""
+    if terms.wanted is None:
+        return
+    wanted, seeds = f"{terms.wanted.width:g} s", f"{len(terms.seeds)} seeds"
+    if reached is None:
+        yield f"width: there is no interval for the wanted ± {wanted}: no vehicles in a run"
+    elif reached <= terms.wanted.width:
+        yield f"width: ± {reached:.2f} s after {seeds}, as narrow as ± {wanted} was wanted"
+    else:
+        yield f"width: ± {reached:.2f} s after {seeds}, the most allowed; ± {wanted} was wanted"
+
+
+def of_quiet(quiet: dict[str, float | None]) -> Iterator[str]:
+    """Yields a line on the time in which coordination was undisturbed, if it is known of a plan."""
+    if any(it is not None for it in quiet.values()):
+        told = (f"{name} " + ("-" if it is None else f"{it:.1%}") for name, it in quiet.items())
+        yield f"coordination undisturbed: {', '.join(told)} of the time"

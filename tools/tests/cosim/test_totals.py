@@ -20,6 +20,39 @@ def test_an_interval_worked_by_hand():
     assert (mean.value, mean.half) == (2.0, pytest.approx(2.4843, abs=0.001))
 
 
+SLEEP = [1.2, 2.4, 1.3, 1.3, 0.0, 1.0, 1.8, 0.8, 4.6, 1.4]
+"""Hours of sleep that ten patients gained by one drug more than by another (Student, Biometrika 6, 1908)."""
+
+
+def test_the_paired_test_of_students_own_example():
+    """t = 4.0621 with 9 degrees of freedom: p = 0.002833, as textbooks have it of these data."""
+    assert totals.paired_p(SLEEP) == totals.paired_p([-it for it in SLEEP]) == pytest.approx(0.002833, abs=5e-7)
+
+
+@pytest.mark.parametrize(
+    ("value", "freedom", "due"),
+    [
+        (1.0, 1, 0.5),  # of Cauchy's distribution: 1 - 2 atan(1) / pi
+        (12.706, 1, 0.05),
+        (4.303, 2, 0.05),
+        (5.841, 3, 0.01),
+        (2.776, 4, 0.05),
+        (1.812, 10, 0.10),
+        (3.250, 9, 0.01),
+        (2.042, 30, 0.05),
+        (1.962, 1000, 0.05),
+        (0.0, 7, 1.0),
+    ],
+)
+def test_p_values_are_those_of_students_tables(value, freedom, due):
+    assert totals.beyond(value, freedom) == totals.beyond(-value, freedom) == pytest.approx(due, rel=0.002)
+
+
+def test_equal_differences_and_one_alone_have_no_deviation():
+    assert totals.paired_p([2.0, 2.0, 2.0]) == 0.0 and totals.paired_p([0.0, 0.0]) == 1.0
+    assert totals.paired_p([3.0]) is None and totals.paired_p([]) is None
+
+
 def test_one_value_has_no_interval():
     assert str(totals.mean_of([5.0])) == "5.00"
 

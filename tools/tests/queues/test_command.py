@@ -50,6 +50,7 @@ def test_a_run_writes_a_report_a_trace_that_is_one_and_what_pictures_are_drawn_f
     value = json.loads(ran.stdout)
     assert value == json.loads((folder / "out/report.json").read_text())
     assert value["seconds"] == 120 and value["title"] == "One"
+    assert value["undisturbed"] == value["cabinets"][0]["undisturbed"] == 0  # the offset takes longer than the run
     by_name = {it["movement"]: it for it in value["movements"]}
     assert by_name["EBT"]["vehicles"] > 5 and by_name["SBT"]["vehicles"] > 0
     assert (folder / "out/report.txt").read_text().startswith("One: 120 s; times in seconds\n")

@@ -7,9 +7,12 @@ import pytest
 from streettools import words
 from streettools.cosim import verdicts
 from streettools.cosim.comparison import Row, Terms
+from streettools.cosim.queues.given import read_volumes
+from streettools.cosim.queues.routes import is_route
 from streettools.cosim.totals import Mean, mean_of
 
-from .test_command import called, folder
+from .conftest import TOP
+from .test_command import VOLUMES, called, folder
 
 __all__ = ["folder"]
 COMPARISON = """\
@@ -57,9 +60,14 @@ def test_plans_are_compared_without_sumo(folder):
     (folder / "plans.toml").write_text(COMPARISON.format(seeds=2, more=more))
     ran = called(folder, "compare", "plans.toml", "-o", "out", "--keep")
     assert (ran.returncode, ran.stderr) == (0, "")
-    rows = json.loads((folder / "out/comparison.json").read_text())["rows"]
-    of = {(it["plan"], it["group"]): it for it in rows}
+    value = json.loads((folder / "out/comparison.json").read_text())
+    of = {(it["plan"], it["group"]): it for it in value["rows"]}
     assert {group for _, group in of} == {"all vehicles", "persons", "at Oak"}
+    assert value["width"] is None
+    # from clock 0 on the counter is 840 ticks ahead, and 120 s are less than the nine cycles that correct it
+    assert value["undisturbed"] == {"one": 0, "the same": 0, "free": 0}
+    assert "coordination undisturbed: one 0.0%, the same 0.0%, free 0.0% of the time" in ran.stdout
+    assert (of["the same", "all vehicles"]["delay_p"], of["one", "all vehicles"]["delay_p"]) == (1, None)
     assert of["the same", "all vehicles"]["more_delay"] == [0.0, 0.0]
     assert of["the same", "all vehicles"]["delay_differs"] == "no real difference"
     assert of["free", "all vehicles"]["trips"] == of["one", "all vehicles"]["trips"]
@@ -89,3 +97,44 @@ def test_what_is_wrong_with_a_comparison_is_one_line_before_anything_runs(folder
     said = capsys.readouterr()
     assert status in (1, 2) and said.out == ""
     assert line in said.err and said.err.count("\n") == 1, said.err
+
+
+HALF = '[[plan]]\nname = "half"\nscenario = "one.json"\nvolumes = "half.toml"'
+
+
+def test_a_plan_may_have_volumes_of_its_own(folder):
+    """A tenth of the eastbound vehicles come; the crossing and the other movements stay as they are."""
+    (folder / "half.toml").write_text(VOLUMES.replace("volume = 700", "volume = 70"))
+    head = COMPARISON.replace("seconds = 120", 'seconds = 240\nroutes = ["EBT 1", "WBT 1"]')
+    (folder / "plans.toml").write_text(head.format(seeds=[3], more=HALF))
+    ran = called(folder, "compare", "plans.toml", "--json")
+    assert (ran.returncode, ran.stderr) == (0, "")
+    trips = {(it["plan"], it["group"]): it["trips"] for it in json.loads(ran.stdout)["rows"]}
+    assert trips["half", "EBT 1"] < trips["one", "EBT 1"] / 3
+    for group in ("WBT 1", "persons"):
+        assert trips["half", group] == trips["one", group], group
+
+
+@pytest.mark.parametrize(
+    ("old", "new", "routes", "line"),
+    [
+        ("crossings =", "# crossings =", "[]", "the volumes of plan one have persons, those of plan half haven't"),
+        ("EBT", "EBX", '["EBT 1"]', "plan half: its volumes have no route EBT 1"),
+        ("EBT", "EBT", '["EBT 1-2"]', "plan one: its volumes have no route EBT 1-2"),
+    ],
+)
+def test_plans_without_the_same_groups_or_routes_are_refused(folder, capsys, program, old, new, routes, line):
+    (folder / "half.toml").write_text(VOLUMES.replace(old, new))
+    head = COMPARISON.replace("seconds = 120", f"seconds = 120\nroutes = {routes}")
+    (folder / "plans.toml").write_text(head.format(seeds=[1], more=HALF))
+    assert words.run(["cosim", "compare", str(folder / "plans.toml"), "--program", str(program)]) == 2
+    said = capsys.readouterr()
+    assert line in said.err and said.err.count("\n") == 1 and said.out == ""
+
+
+def test_routes_are_known_by_the_ways_through_the_street():
+    volumes = read_volumes(TOP / "scenarios/street.volumes.toml")
+    for name in ("EBT 1-4", "EBT 1-2", "WBT 4-1", "EBT 1-2, EBL 3", "NBT 2", "EBL 1"):
+        assert is_route(volumes, name), name
+    for name in ("EBT 2-4", "EBT 1-5", "EBT 1-2, WBT 1", "EBT 1, EBL 3", "EBT", "EBT 1-2, ", ""):
+        assert not is_route(volumes, name), name

@@ -70,7 +70,7 @@ def asked_of(words: argparse.Namespace, seconds: float) -> Asked:
         raise Fault(f"{seconds:g} s is not a whole number of steps of {words.step} s")
     if words.warm >= seconds:
         raise Fault(f"--warm {words.warm} leaves nothing of {seconds:g} s to measure")
-    return Asked(seconds, step, words.seed, words.warm, words.keep_inputs, words.output is not None)
+    return Asked(seconds, step, words.seed, words.warm, words.keep_inputs, keeps_trace=True)
 
 
 def maker_of(path: pathlib.Path | None, scenario: dict[str, Any]) -> queue_study.Makes | None:
@@ -106,9 +106,9 @@ def does(words: argparse.Namespace) -> int:
     folder = pathlib.Path(words.output or ".")
     study = queue_study.study_of(came, folder / TRACE)
     value = keeping.value_of(came, study, street)
-    if came.trace is not None:
+    if words.output is not None:
         say_replaced("cosim", study.trace)
-        keeping.write(folder, came, study, street)
+        keeping.write(folder, came, study, street, value)
     sys.stdout.write(report.json_text(value) if words.json else report.text(value))
     sys.stdout.flush()
     return Status.DONE

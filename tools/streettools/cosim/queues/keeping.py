@@ -5,7 +5,7 @@ from typing import TYPE_CHECKING
 
 from ...shared.fault import Fault
 from ...shared.status import Status
-from .. import records, report
+from .. import records, report, undisturbed
 from .given import Street
 from .study import Ran, Study
 
@@ -17,7 +17,8 @@ TRACE, NAMES = "session.trace", "session.names.json"
 
 def value_of(ran: Ran, study: Study, street: Street) -> report.Value:
     """Returns the report of a run."""
-    return report.collect(study, ran.signals.greens, report.More(called_in(street.names)))
+    quiet = undisturbed.shares(ran.trace or b"", study.warm, study.seconds)
+    return report.collect(study, ran.signals.greens, report.More(called_in(street.names), quiet))
 
 
 def called_in(names: "Names | None") -> dict[int, str]:
@@ -35,9 +36,8 @@ def keep_names(folder: pathlib.Path, street: Street) -> None:
         (folder / NAMES).write_text(names.text(street.names), encoding="utf-8")
 
 
-def write(folder: pathlib.Path, ran: Ran, study: Study, street: Street) -> None:
-    """Writes all that is kept of a run whose trace was recorded."""
-    value = value_of(ran, study, street)
+def write(folder: pathlib.Path, ran: Ran, study: Study, street: Street, value: report.Value) -> None:
+    """Writes all that is kept of a run whose trace was recorded, with its report."""
     try:
         folder.mkdir(parents=True, exist_ok=True)
         study.trace.write_bytes(ran.trace or b"")
