@@ -210,6 +210,29 @@ name = "Elm & 2nd"
 """
 
 
+def test_the_list_of_messages_is_filtered_by_kind_cabinet_and_text(panel, browser):
+    from selenium.webdriver.common.keys import Keys
+
+    running, address = panel("--speed", 0)
+    running.ask(message(SET, 7, [(CONTROL, 99)]))
+    for _ in range(3):
+        running.ask(get(1, VERSION))
+    browser.get(address)
+    awaited(browser, "message-count", "4 of 4")
+    chosen = browser.find_element("id", "message-kind")
+    # all, Get, GetNext, GetBulk, Set, with a fault
+    for keys, left in ((Keys.DOWN, 3), (3 * Keys.DOWN, 1), (Keys.DOWN, 1), (Keys.HOME, 4)):
+        chosen.send_keys(keys)
+        awaited(browser, "message-count", f"{left} of 4")
+    text = browser.find_element("id", "message-text")
+    text.send_keys("badvalue")
+    awaited(browser, "message-count", "1 of 4")
+    running.ask(message(SET, 8, [(CONTROL, 99)]))
+    awaited(browser, "message-count", "2 of 5")
+    browser.find_element("id", "message-cabinet").send_keys(Keys.END)
+    awaited(browser, "message-count", "2 of 5")
+
+
 def test_a_street_of_a_sheet_has_its_names_enabled_phases_and_times(street, browser, tmp_path):
     """Phase 8 is entered by the sheet: it is named as what it is. Of the standard table 9 to 16 aren't enabled. The
     first intersection is drawn at the foot."""

@@ -82,6 +82,7 @@ function take(told) {
   }
   (told.notes || []).forEach(addNote);
   (told.messages || []).forEach(addMessage);
+  if (told.all || (told.messages || []).length) countMessages();
   show();
 }
 
@@ -100,8 +101,36 @@ function addMessage([tick, cabinet, asked, answered]) {
   const body = by("messages").tBodies[0];
   const row = made("tr");
   for (const text of [moment(tick), cabinet, asked, answered]) row.append(made("td", "", text));
+  row.hidden = !isWanted(row);
   body.prepend(row);
   while (body.children.length > KEPT) body.lastChild.remove();
+}
+
+// Tells whether a message is one of those that the fields above the list ask for.
+function isWanted(row) {
+  const [, cabinet, asked, answered] = Array.from(row.cells, (it) => it.textContent);
+  const [number, kind] = [by("message-cabinet").value, by("message-kind").value];
+  const text = by("message-text").value.trim().toLowerCase();
+  if (number && cabinet !== number) return false;
+  if (kind === "fault" ? !/^silence$|^\w+ at \d+$/.test(answered) : kind && asked.split(" ")[0] !== kind) return false;
+  return !text || `${asked} ${answered}`.toLowerCase().includes(text);
+}
+
+function filterMessages() {
+  for (const row of by("messages").tBodies[0].children) row.hidden = !isWanted(row);
+  countMessages();
+}
+
+function countMessages() {
+  const rows = [...by("messages").tBodies[0].children];
+  put(by("message-count"), `${rows.filter((it) => !it.hidden).length} of ${rows.length}`);
+}
+
+function buildMessageFilter() {
+  const chosen = by("message-cabinet").value;
+  const options = known.facts.map((it) => new Option(cabinetTitle(it.number), it.number));
+  by("message-cabinet").replaceChildren(new Option("all", ""), ...options);
+  by("message-cabinet").value = chosen;
 }
 
 function showTime(told) {
@@ -394,6 +423,7 @@ function build() {
   document.title = known.names.title || "Street";
   buildCards();
   buildTravel();
+  buildMessageFilter();
   buildCabinet();
 }
 
@@ -435,6 +465,7 @@ by("speed").addEventListener("change", () => ask({ do: "speed", speed: Number(by
 for (const id of ["minutes", "outbound", "inbound"]) {
   by(id).addEventListener("change", () => drawDiagram(known));
 }
+for (const id of ["message-cabinet", "message-kind", "message-text"]) by(id).addEventListener("input", filterMessages);
 window.addEventListener("hashchange", look);
 viewed = Number(location.hash.slice(1)) || 0;
 by("overview").hidden = viewed !== 0;
