@@ -9,7 +9,8 @@ from ..shared.oids import SYSTEM
 from ..street.ntcip.objects import OBJECTS, WRITABLE
 from .front_objects import GROUPS, NAMED, ROWS, Named, Row
 
-IMPORTED = ("arterialProfile", "asc", "devices", "phase", "coord", "preempt", "preemptEntry", "ring")
+IMPORTED = ("arterialProfile", "asc", "devices", "phase", "coord", "preempt", "preemptEntry", "ring",
+            "sequenceRingNumber")  # fmt: skip
 """What it takes from the module of the profile."""
 HEAD = """\
 ARTERIAL-FRONT-MIB DEFINITIONS ::= BEGIN

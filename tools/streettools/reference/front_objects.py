@@ -7,8 +7,8 @@ from enum import Enum
 from ..shared.ber import Arcs
 from ..shared.mib import MIB2
 from ..shared.oids import (
-    ASC, DETECTOR_GROUP, GLOBAL, GLOBAL_TIME, PED_CALL, PHASE_CONTROL, PREEMPT_CONTROL, PREEMPT_STATE, SYSTEM,
-    TRANSACTION, VEH_CALL, VERIFY_ERROR, VERIFY_STATUS,
+    ASC, DETECTOR_ENTRY, DETECTOR_GROUP, ENTRIES, GLOBAL, GLOBAL_TIME, PED_CALL, PHASE_CONTROL, PREEMPT_CONTROL,
+    PREEMPT_STATE, SYSTEM, TRANSACTION, VEH_CALL, VERIFY_ERROR, VERIFY_STATUS,
 )  # fmt: skip
 
 
@@ -40,6 +40,8 @@ class Row:
     text: str
 
 
+WIDE = {6: "Integer32 (0..65535)"}
+"""The syntax of columns that isn't that of the others."""
 NUMBER, COLUMN = "the number", "the number of the column"
 TEXT, OID, BYTE = "OCTET STRING (SIZE (0..255))", "OBJECT IDENTIFIER", "Integer32 (0..255)"
 SYSTEM_TEXTS = (
@@ -74,6 +76,17 @@ def index(name: str, last: int) -> Named:
     """Returns an index column, which can be read."""
     return Named(name, Source.ASC, f"Integer32 (1..{last})", "The number of the row. It can be read.")
 
+
+PEOPLE, REPORT = ASC + (2, 7, 1), ASC + (2, 5)
+NO_TEST = "0: detectors aren't tested."
+COLUMNS = {
+    2: ("Options", "147: it calls, extends the green, and is counted: volume and occupancy."),
+    4: ("CallPhase", "The phase that the detector calls: that of its number."), 5: ("SwitchPhase", "0: none."),
+    6: ("Delay", "0."), 7: ("Extend", "0."), 8: ("QueueLimit", "0."), 9: ("NoActivity", NO_TEST),
+    10: ("MaxPresence", NO_TEST), 11: ("ErraticCounts", NO_TEST), 13: ("Alarms", "0: it has no alarm."),
+    14: ("ReportedAlarms", "0: it has no alarm."),
+}  # fmt: skip
+"""The columns of vehicleDetectorTable beside the first."""
 
 GLOBALS: dict[Arcs, Named] = {
     GLOBAL + (1, 1): of_global(
@@ -111,19 +124,54 @@ PHASES: dict[Arcs, Named] = {
 }  # fmt: skip
 DETECTORS: dict[Arcs, Named] = {
     ASC + (2, 1): most("maxVehicleDetectors", "vehicle detectors, one for each phase", 16),
+    DETECTOR_ENTRY + (1,): index("vehicleDetectorNumber", 16),
+    **{DETECTOR_ENTRY + (at,): asc(f"vehicleDetector{name}", WIDE.get(at, BYTE), text)
+       for at, (name, text) in COLUMNS.items()},
     ASC + (2, 3): most("maxVehicleDetectorStatusGroups", "groups of eight vehicle detectors", 2),
     DETECTOR_GROUP + (1,): index("vehicleDetectorStatusGroupNumber", 2),
     DETECTOR_GROUP + (2,): asc("vehicleDetectorStatusGroupActive", BYTE, "Which vehicle detectors are on."),
     DETECTOR_GROUP + (3,): asc("vehicleDetectorStatusGroupAlarms", BYTE, "0: no detector has an alarm."),
-}
+    REPORT + (1,): asc("volumeOccupancySequence", BYTE, "The number of the last period, from 0 again after 255."),
+    REPORT + (2,): asc("volumeOccupancyPeriod", "Integer32 (60)", "The seconds of a period. They are fixed."),
+    REPORT + (3,): most("activeVolumeOccupancyDetectors", "rows of volumeOccupancyTable", 16),
+    REPORT + (4, 1, 1): asc("detectorVolume", BYTE, "How many vehicles came onto the detector in the last period."),
+    REPORT + (4, 1, 2): asc(
+        "detectorOccupancy", BYTE, "How long the detector was on in the last period, in half percents.",
+        "above 200, the codes of faults, it has none",
+    ),
+    ASC + (2, 6): most("maxPedestrianDetectors", "pedestrian detectors, one for each phase", 16),
+    PEOPLE + (1,): index("pedestrianDetectorNumber", 16),
+    PEOPLE + (2,): asc("pedestrianDetectorCallPhase", BYTE, "The phase that the button calls: that of its number."),
+    PEOPLE + (3,): asc("pedestrianDetectorNoActivity", BYTE, NO_TEST),
+    PEOPLE + (4,): asc("pedestrianDetectorMaxPresence", BYTE, NO_TEST),
+    PEOPLE + (5,): asc("pedestrianDetectorErraticCounts", BYTE, NO_TEST),
+    PEOPLE + (6,): asc("pedestrianDetectorAlarms", BYTE, "0: no detector has an alarm."),
+}  # fmt: skip
 UNIT: dict[Arcs, Named] = {
+    ASC + (3, 1): asc("unitStartUpFlash", BYTE, "0: start-up is 6 s of red, without flash."),
+    ASC + (3, 2): asc("unitAutoPedestrianClear", "INTEGER { disable(1), enable(2) }", "Always disable."),
+    ASC + (3, 3): asc(
+        "unitBackupTime", "Integer32 (0..65535)",
+        "The seconds without a command after which the cabinet runs free. Only a download of backupTime changes it.",
+    ),
+    ASC + (3, 4): asc(
+        "unitRedRevert", BYTE, "The least phaseRedRevert of the enabled phases, in tenths of a second.",
+        "a unit has a red revert of its own; here only phases have one",
+    ),
     ASC + (3, 5): asc("unitControlStatus", "INTEGER { systemControl(2) }", "Always systemControl."),
     ASC + (3, 6): asc("unitFlashStatus", "INTEGER { notFlash(2), automatic(3) }", "Whether the cabinet is in flash."),
     ASC + (3, 7): asc("unitAlarmStatus2", BYTE, "32 on the way to the offset."),
     ASC + (3, 8): asc("unitAlarmStatus1", BYTE, "128 coordinated, 64 free, 32 flash."),
     ASC + (3, 9): asc("shortAlarmStatus", BYTE, "1 preempt, 2 flash."),
-}
+}  # fmt: skip
 COORD: dict[Arcs, Named] = {
+    ASC + (4, 1): asc("coordOperationalMode", BYTE, "0, automatic: systemPatternControl decides."),
+    ASC + (4, 4): asc(
+        "coordForceMode", "INTEGER { other(1), floating(2), fixed(3) }", "forceMode, in the numbers of NTCIP 1202."
+    ),
+    ASC + (4, 6): asc(
+        "patternTableType", "INTEGER { other(1), patterns(2), offset3(3), offset5(4) }", "Always patterns."
+    ),
     ASC + (4, 5): most("maxPatterns", "patterns", 48),
     ASC + (4, 8): most("maxSplits", "splits", 32),
     ASC + (4, 11): asc(
@@ -137,6 +185,12 @@ COORD: dict[Arcs, Named] = {
     ASC + (4, 13): asc("coordSyncStatus", BYTE, "The whole seconds since local zero."),
 }  # fmt: skip
 PREEMPTS: dict[Arcs, Named] = {
+    ENTRIES["preempt"] + (16,): asc(
+        "preemptState",
+        "INTEGER { other(1), notActive(2), notActiveWithCall(3), entryStarted(4), trackService(5), dwell(6), "
+        "linkActive(7), exitStarted(8), maxPresence(9) }",
+        "What the preempt does, by the mode and its input. linkActive and maxPresence don't occur.", COLUMN,
+    ),
     ASC + (6, 1): most("maxPreempts", "preempts", 8),
     PREEMPT_CONTROL + (1,): index("preemptControlNumber", 8),
     PREEMPT_STATE: asc(
@@ -147,7 +201,13 @@ PREEMPTS: dict[Arcs, Named] = {
 RINGS: dict[Arcs, Named] = {
     ASC + (7, 1): most("maxRings", "rings", 2),
     ASC + (7, 2): most("maxSequences", "sequences", 16),
-}
+    ASC + (7, 6, 1, 1): asc(
+        "ringStatus", BYTE,
+        "What the ring does: 0 minimum green, 1 extension, 3 green rest, 4 yellow change, 5 red clearance, 6 red rest. "
+        "Green that has had its minimum is extension if another phase has a call, otherwise rest.",
+        "the bits for gap out, max out and force-off are never set, and 2, maximum, doesn't occur",
+    ),
+}  # fmt: skip
 NAMED: dict[Arcs, Named] = {**system(), **GLOBALS, **PHASES, **DETECTORS, **UNIT, **COORD, **PREEMPTS, **RINGS}
 """The objects by their arcs without the last, in the order of a walk."""
 ROWS: dict[Arcs, Row] = {
@@ -156,11 +216,16 @@ ROWS: dict[Arcs, Row] = {
     DETECTOR_GROUP: Row(
         "vehicleDetectorStatusGroup", "vehicleDetectorStatusGroupNumber", "Eight vehicle detectors."
     ),
+    DETECTOR_ENTRY: Row("vehicleDetector", "vehicleDetectorNumber", "A vehicle detector: that of a phase."),
+    REPORT + (4, 1): Row("volumeOccupancy", "vehicleDetectorNumber", "What a vehicle detector has counted."),
+    PEOPLE: Row("pedestrianDetector", "pedestrianDetectorNumber", "A push button: that of a phase."),
+    ASC + (7, 6, 1): Row("ringStatus", "sequenceRingNumber", "What a ring does."),
     PREEMPT_CONTROL: Row("preemptControl", "preemptControlNumber", "The input of a preempt."),
 }  # fmt: skip
 """The tables of which the front end has all columns that there are, by the arcs of their rows."""
 GROUPS: dict[Arcs, str] = {
     GLOBAL: "global", GLOBAL + (1,): "globalConfiguration", GLOBAL + (2,): "globalDBManagement",
-    GLOBAL + (3,): "globalTimeManagement", ASC + (2,): "detector", ASC + (3,): "unit",
+    GLOBAL + (3,): "globalTimeManagement", ASC + (2,): "detector", ASC + (2, 5): "volumeOccupancyReport",
+    ASC + (3,): "unit",
 }  # fmt: skip
 """The nodes above them that ARTERIAL-PROFILE-MIB doesn't have, each below one that is known."""

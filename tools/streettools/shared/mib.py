@@ -1,4 +1,4 @@
-"""The names of objects by the MIBs in mibs/ (that of the profile, that of the front end), and of MIB-2's system group."""
+"""The names of objects by the MIBs in mibs/ (of the profile, of the front end), and of MIB-2's system group."""
 
 import functools
 import pathlib

@@ -233,13 +233,14 @@ def wire_of(asked: Asked, stack: contextlib.AsyncExitStack) -> ports.Wire | None
 async def served(asked: Asked) -> None:
     """Opens all, and answers until the street ends, or its program dies."""
     given, street, sockets = asked.given, asked.street, asked.sockets
+    fronts = Fronts(street) if given.front else None
     await street.open()
     loop = asyncio.get_running_loop()
     for number in (signal.SIGINT, signal.SIGTERM):
         loop.add_signal_handler(number, street.end)
     async with contextlib.AsyncExitStack() as stack:
         wire = wire_of(asked, stack)
-        asks: ports.Asked = Fronts(street).datagram if given.front else street.datagram
+        asks: ports.Asked = fronts.datagram if fronts else street.datagram
         for transport in await ports.listening(sockets, asked.panel.hearing(asks) if asked.panel else asks, wire):
             stack.callback(transport.close)
         tell_places(street, [ports.place_of(port) for port in sockets])

@@ -7,7 +7,7 @@ record is full.
 import asyncio
 import contextlib
 from collections.abc import AsyncIterator, Awaitable, Iterator
-from typing import Any
+from typing import TYPE_CHECKING, Any
 
 from ..shared.fault import Fault
 from ..shared.program import Died
@@ -18,6 +18,9 @@ from .inputs import Inputs
 from .known import Clocks, Downloads
 from .pace import Pace
 from .session import Over, Session, frame, reply_in
+
+if TYPE_CHECKING:
+    from .ntcip.shown import Shown
 
 LONGEST = 1472
 """The octets of the longest message that a cabinet may be given."""
@@ -79,6 +82,8 @@ class Street:
         """The names of intersections, by their numbers."""
         self.after_message = 0
         """How many ticks go by after each datagram."""
+        self.shown: Shown
+        """What the front answers from, where there is one."""
         self.session_ticks: int | None = None
         """After how many ticks a session changes at the latest."""
         self.stops_at_end = self.is_replaying = False

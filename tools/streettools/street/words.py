@@ -132,7 +132,7 @@ def parser() -> argparse.ArgumentParser:
     )
     words.add_argument(
         "--session", type=hours, metavar="HOURS",
-        help="begin a new session after so many hours of the street, 0.01 to 24 (default: as late as possible)",
+        help="begin a new session after this time, in hours of the street: 0.01 to 24 (default: as late as possible)",
     )  # fmt: skip
     words.add_argument(
         "--line", metavar="FILE", help="a bad line between managers and cabinets, described in TOML (docs/STREET.md)"
