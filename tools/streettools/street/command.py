@@ -284,6 +284,8 @@ def main(arguments: list[str] | None = None) -> int:
         opened = None if given.panel is None else Opened(given)
         street, requests = street_of(given, [*hearers, *(opened.hearers() if opened else ())])
         line = line_of(pathlib.Path(given.line), len(street.scenario["cabinets"])) if given.line else None
+        if opened:
+            line = opened.panel.line = line or Line([], 0)
         wanted = ports.places(words.first_place(given), len(street.scenario["cabinets"]), given.addresses is not None)
         with ports.opened(wanted) as sockets:
             asyncio.run(served(Asked(given, street, requests, sockets, opened, line)))

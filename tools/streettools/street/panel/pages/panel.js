@@ -5,7 +5,8 @@ const COLOURS = { G: "green", Y: "yellow change", C: "red clearance", R: "red" }
 const SIGNALS = { W: "walk", F: "flashing don't walk", D: "don't walk" };
 const STAGES = { e: "on the way", t: "track clearance", d: "dwell", x: "exit" };
 const KEPT = 200;
-const known = { facts: [], names: {}, cabinets: {}, now: 0, speed: 1, inputs: new Set(), rates: {}, greens: {}, details: {} };
+const known = { facts: [], names: {}, cabinets: {}, now: 0, speed: 1, inputs: new Set(), rates: {}, greens: {}, details: {},
+  line: { rules: 0, on: true, hanging: [] } };
 const by = (id) => document.getElementById(id);
 let socket = null;
 let viewed = 0;
@@ -73,6 +74,7 @@ function take(told) {
     known.speed = told.speed;
     known.inputs = new Set(told.inputs);
     known.rates = told.rates;
+    known.line = told.line;
     showTime(told);
   }
   if (told.details) known.details = told.details;
@@ -137,6 +139,8 @@ function showTime(told) {
   const stands = known.speed === 0;
   by("pause").setAttribute("aria-pressed", String(stands));
   put(by("pause"), stands ? "Go on" : "Pause");
+  by("bad-line").hidden = known.line.rules === 0;
+  press("bad-line", known.line.on);
   if (!stands) {
     resumed = known.speed;
     if (document.activeElement !== by("speed")) showSpeed(String(known.speed));
@@ -413,6 +417,7 @@ function showCabinet() {
   layRings(shown);
   showFacts(shown);
   for (const p of known.facts[viewed - 1].phases) showPhase(p, shown);
+  press("hang", known.line.hanging.includes(viewed));
   for (let n = 1; n <= 8; n += 1) press(`preempt-${n}`, known.inputs.has(`preempt ${viewed} ${n}`));
 }
 
@@ -459,6 +464,10 @@ function connect() {
 }
 
 by("pause").addEventListener("click", () => ask({ do: "speed", speed: known.speed === 0 ? resumed : 0 }));
+by("bad-line").addEventListener("click", () => ask({ do: "line", on: !known.line.on }));
+by("hang").addEventListener("click", () => {
+  ask({ do: "hang", cabinet: viewed, on: !known.line.hanging.includes(viewed) });
+});
 by("tick").addEventListener("click", () => ask({ do: "step", ticks: 1 }));
 by("second").addEventListener("click", () => ask({ do: "step", ticks: 10 }));
 by("speed").addEventListener("change", () => ask({ do: "speed", speed: Number(by("speed").value) }));
