@@ -119,5 +119,6 @@ class Shown(Hearer):
         self.volumes.began(scenario)
 
     def heard(self, request: bytes | None, answer: Answer) -> None:
-        self.frames.heard(request, answer)
-        self.volumes.heard(request, answer)
+        if request is None or request.startswith(b"tick "):
+            self.frames.heard(request, answer)
+            self.volumes.heard(request, answer)
