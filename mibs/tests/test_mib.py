@@ -6,6 +6,7 @@ import pathlib
 import re
 import shutil
 import subprocess
+import sys
 
 import pytest
 
@@ -128,3 +129,19 @@ def test_each_instance_of_a_walk_has_a_name_and_a_syntax(walk):
 def test_each_readable_object_is_met_by_a_walk(walk):
     written = {text.split(".")[0] for text in translated(instances(WRITTEN_ONLY))}
     assert {text.split(".")[0] for text in translated([name for name, _, _ in walk])} == set(syntaxes()) - written
+
+
+def test_the_module_of_the_front_lints_without_a_warning():
+    path = {"SMIPATH": f"{MIBS / 'base'}:{MIBS}", "PATH": "/usr/bin:/bin"}
+    assert asked("smilint", "-l", "3", str(MIBS / "ARTERIAL-FRONT-MIB"), env=path) == ""
+
+
+def test_net_snmp_has_a_name_for_each_object_of_the_front():
+    """Those of MIB-2 are in SNMPv2-MIB, which Debian doesn't bring."""
+    sys.path.insert(0, str(MIBS.parent / "tools"))
+    from streettools.street.ntcip.objects import OBJECTS
+
+    own = [".".join(map(str, arcs)) for arcs in OBJECTS if arcs[:7] != (1, 3, 6, 1, 2, 1, 1)]
+    words = ["-M", f"{MIBS}:{MIBS / 'base'}", "-m", "ARTERIAL-FRONT-MIB", "-Os", *own]
+    texts = asked("snmptranslate", *words, errors=subprocess.DEVNULL).split()
+    assert len(set(texts)) == len(own) and [it for it in texts if not re.fullmatch(r"[a-z][A-Za-z0-9]+\.\d+", it)] == []

@@ -26,8 +26,8 @@ TOOLS = TOP / "tools"
 PACKAGES = ("arterial", "streettools")
 DATA = "arterial/data"
 CARRIED = {
-    "ARTERIAL-PROFILE-MIB": "mibs/ARTERIAL-PROFILE-MIB", "scenario.schema.json": "docs/scenario.schema.json",
-    "field.schema.json": "docs/field.schema.json",
+    "ARTERIAL-PROFILE-MIB": "mibs/ARTERIAL-PROFILE-MIB", "ARTERIAL-FRONT-MIB": "mibs/ARTERIAL-FRONT-MIB",
+    "scenario.schema.json": "docs/scenario.schema.json", "field.schema.json": "docs/field.schema.json",
 }  # fmt: skip
 """What is put into the package's data, by its place in the checkout."""
 RECORD = TOP / "crates/arterial/out/proved"

@@ -1,12 +1,14 @@
-"""The names of the front end's objects, where each name and number comes from, and what is doubtful about it."""
+"""The names of the front end's objects, what each is and takes, where each name and number comes from, and what is
+doubtful about it. Both docs/OBJECTS.md and mibs/ARTERIAL-FRONT-MIB are made from this table."""
 
 from dataclasses import dataclass
 from enum import Enum
 
 from ..shared.ber import Arcs
+from ..shared.mib import MIB2
 from ..shared.oids import (
-    ASC, DETECTOR_GROUP, GLOBAL, GLOBAL_TIME, PED_CALL, PHASE_CONTROL, PREEMPT_CONTROL, PREEMPT_STATE, SYSTEM,
-    TRANSACTION, VEH_CALL, VERIFY_ERROR, VERIFY_STATUS,
+    ASC, DETECTOR_ENTRY, DETECTOR_GROUP, ENTRIES, GLOBAL, GLOBAL_TIME, PED_CALL, PHASE_CONTROL, PREEMPT_CONTROL,
+    PREEMPT_STATE, SYSTEM, TRANSACTION, VEH_CALL, VERIFY_ERROR, VERIFY_STATUS,
 )  # fmt: skip
 
 
@@ -20,55 +22,210 @@ class Source(Enum):
 
 @dataclass(frozen=True)
 class Named:
-    """An object of the front end."""
+    """An object of the front end: its syntax and its meaning as a MIB has them."""
 
     name: str
     source: Source
+    syntax: str
+    text: str
     doubt: str = ""
 
 
-def under(base: Arcs, source: Source, **found: tuple[int, ...]) -> dict[Arcs, Named]:
-    """Returns objects by their arcs, from names with the arcs after a common base."""
-    return {base + arcs: Named(name, source) for name, arcs in found.items()}
+@dataclass(frozen=True)
+class Row:
+    """A table of the front end: the name of its row without Entry, its indexes, and what a row is."""
+
+    name: str
+    index: str
+    text: str
 
 
+WIDE = {6: "Integer32 (0..65535)"}
+"""The syntax of columns that isn't that of the others."""
 NUMBER, COLUMN = "the number", "the number of the column"
-NAMED: dict[Arcs, Named] = {
-    **under(
-        SYSTEM, Source.MIB2,
-        sysDescr=(1,), sysObjectID=(2,), sysUpTime=(3,), sysContact=(4,), sysName=(5,), sysLocation=(6,),
-        sysServices=(7,),
-    ),
-    **under(
-        GLOBAL, Source.GLOBAL,
-        globalSetIDParameter=(1, 1), globalMaxModules=(1, 2), moduleNumber=(1, 3, 1, 1), moduleDeviceNode=(1, 3, 1, 2),
-        moduleMake=(1, 3, 1, 3), moduleModel=(1, 3, 1, 4), moduleVersion=(1, 3, 1, 5), moduleType=(1, 3, 1, 6),
-    ),
-    TRANSACTION[:-1]: Named(
-        "dbCreateTransaction", Source.GLOBAL, "whether a Set of NORMAL from DONE is what puts tables in force"
-    ),
-    VERIFY_STATUS[:-1]: Named("dbVerifyStatus", Source.GLOBAL, NUMBER),
-    VERIFY_ERROR[:-1]: Named("dbVerifyError", Source.GLOBAL, NUMBER),
-    GLOBAL_TIME[:-1]: Named("globalTime", Source.GLOBAL),
-    **under(ASC, Source.ASC, maxPhases=(1, 1), maxPhaseGroups=(1, 3)),
-    PHASE_CONTROL + (1,): Named("phaseControlGroupNumber", Source.ASC),
-    VEH_CALL: Named("phaseControlGroupVehCall", Source.ASC, COLUMN),
-    PED_CALL: Named("phaseControlGroupPedCall", Source.ASC, COLUMN),
-    **under(ASC, Source.ASC, maxVehicleDetectors=(2, 1), maxVehicleDetectorStatusGroups=(2, 3)),
-    **under(
-        DETECTOR_GROUP, Source.ASC,
-        vehicleDetectorStatusGroupNumber=(1,), vehicleDetectorStatusGroupActive=(2,),
-        vehicleDetectorStatusGroupAlarms=(3,),
-    ),
-    **under(
-        ASC, Source.ASC,
-        unitControlStatus=(3, 5), unitFlashStatus=(3, 6), unitAlarmStatus2=(3, 7), unitAlarmStatus1=(3, 8),
-        shortAlarmStatus=(3, 9), maxPatterns=(4, 5), maxSplits=(4, 8), localFreeStatus=(4, 11),
-    ),
-    ASC + (4, 12): Named("coordCycleStatus", Source.ASC, "the direction in which it counts (here: the seconds left)"),
-    **under(ASC, Source.ASC, coordSyncStatus=(4, 13), maxPreempts=(6, 1)),
-    PREEMPT_CONTROL + (1,): Named("preemptControlNumber", Source.ASC),
-    PREEMPT_STATE: Named("preemptControlState", Source.ASC, COLUMN),
-    **under(ASC, Source.ASC, maxRings=(7, 1), maxSequences=(7, 2)),
+TEXT, OID, BYTE = "OCTET STRING (SIZE (0..255))", "OBJECT IDENTIFIER", "Integer32 (0..255)"
+SYSTEM_TEXTS = (
+    "What this is.", "Arterial's own number.", "Hundredths of a second since the session began.", "Empty.",
+    "The name of the intersection, or the cabinet's number.", "Empty.", "72: a host with applications.",
+)  # fmt: skip
+
+
+def system() -> dict[Arcs, Named]:
+    """Returns the objects of the system group."""
+    kinds = (TEXT, OID, "TimeTicks", TEXT, TEXT, TEXT, "Integer32 (0..127)")
+    rows = zip(MIB2, kinds, SYSTEM_TEXTS, strict=True)
+    return {SYSTEM + (at,): Named(name, Source.MIB2, kind, said) for at, (name, kind, said) in enumerate(rows, 1)}
+
+
+def most(name: str, what: str, number: int) -> Named:
+    """Returns an object that tells how many there are."""
+    return Named(name, Source.ASC, f"Integer32 ({number})", f"The number of {what}.")
+
+
+def of_global(name: str, syntax: str, text: str, doubt: str = "") -> Named:
+    """Returns an object of NTCIP 1201."""
+    return Named(name, Source.GLOBAL, syntax, text, doubt)
+
+
+def asc(name: str, syntax: str, text: str, doubt: str = "") -> Named:
+    """Returns an object of NTCIP 1202."""
+    return Named(name, Source.ASC, syntax, text, doubt)
+
+
+def index(name: str, last: int) -> Named:
+    """Returns an index column, which can be read."""
+    return Named(name, Source.ASC, f"Integer32 (1..{last})", "The number of the row. It can be read.")
+
+
+PEOPLE, REPORT = ASC + (2, 7, 1), ASC + (2, 5)
+NO_TEST = "0: detectors aren't tested."
+COLUMNS = {
+    2: ("Options", "147: it calls, extends the green, and is counted: volume and occupancy."),
+    4: ("CallPhase", "The phase that the detector calls: that of its number."), 5: ("SwitchPhase", "0: none."),
+    6: ("Delay", "0."), 7: ("Extend", "0."), 8: ("QueueLimit", "0."), 9: ("NoActivity", NO_TEST),
+    10: ("MaxPresence", NO_TEST), 11: ("ErraticCounts", NO_TEST), 13: ("Alarms", "0: it has no alarm."),
+    14: ("ReportedAlarms", "0: it has no alarm."),
 }  # fmt: skip
+"""The columns of vehicleDetectorTable beside the first."""
+
+GLOBALS: dict[Arcs, Named] = {
+    GLOBAL + (1, 1): of_global(
+        "globalSetIDParameter", "Integer32 (0..65535)", "Changes whenever tables are put in force."
+    ),
+    GLOBAL + (1, 2): of_global("globalMaxModules", "Integer32 (1)", "The number of modules."),
+    GLOBAL + (1, 3, 1, 1): of_global("moduleNumber", "Integer32 (1)", "The number of the row. It can be read."),
+    GLOBAL + (1, 3, 1, 2): of_global("moduleDeviceNode", OID, "The node of signal controllers."),
+    GLOBAL + (1, 3, 1, 3): of_global("moduleMake", TEXT, "The maker."),
+    GLOBAL + (1, 3, 1, 4): of_global("moduleModel", TEXT, "The model."),
+    GLOBAL + (1, 3, 1, 5): of_global("moduleVersion", TEXT, "The version of arterial."),
+    GLOBAL + (1, 3, 1, 6): of_global("moduleType", "INTEGER { other(1), hardware(2), software(3) }", "Software."),
+    TRANSACTION[:-1]: of_global(
+        "dbCreateTransaction", "INTEGER { normal(1), transaction(2), verify(3), done(6) }",
+        "The state of the transaction. Cells of tables that are set in state transaction are collected; verify tests "
+        "them; normal puts valid ones in force.",
+        "whether a Set of NORMAL from DONE is what puts tables in force",
+    ),
+    VERIFY_STATUS[:-1]: of_global(
+        "dbVerifyStatus", "INTEGER { notDone(1), doneWithError(2), doneWithNoError(3) }", "What verify found.", NUMBER
+    ),
+    VERIFY_ERROR[:-1]: of_global("dbVerifyError", TEXT, "Which rule the collected tables break.", NUMBER),
+    GLOBAL_TIME[:-1]: of_global("globalTime", "Counter32", "Seconds since 1970. A Set sets the cabinet's clock."),
+}  # fmt: skip
+PHASES: dict[Arcs, Named] = {
+    ASC + (1, 1): most("maxPhases", "phases", 16),
+    ASC + (1, 3): most("maxPhaseGroups", "groups of eight phases", 2),
+    PHASE_CONTROL + (1,): index("phaseControlGroupNumber", 2),
+    VEH_CALL: asc(
+        "phaseControlGroupVehCall", BYTE, "Which vehicle detectors are on. A Set turns them on and off.", COLUMN
+    ),
+    PED_CALL: asc(
+        "phaseControlGroupPedCall", BYTE, "The bits that were set last. A bit that turns on presses the button.", COLUMN
+    ),
+}  # fmt: skip
+DETECTORS: dict[Arcs, Named] = {
+    ASC + (2, 1): most("maxVehicleDetectors", "vehicle detectors, one for each phase", 16),
+    DETECTOR_ENTRY + (1,): index("vehicleDetectorNumber", 16),
+    **{DETECTOR_ENTRY + (at,): asc(f"vehicleDetector{name}", WIDE.get(at, BYTE), text)
+       for at, (name, text) in COLUMNS.items()},
+    ASC + (2, 3): most("maxVehicleDetectorStatusGroups", "groups of eight vehicle detectors", 2),
+    DETECTOR_GROUP + (1,): index("vehicleDetectorStatusGroupNumber", 2),
+    DETECTOR_GROUP + (2,): asc("vehicleDetectorStatusGroupActive", BYTE, "Which vehicle detectors are on."),
+    DETECTOR_GROUP + (3,): asc("vehicleDetectorStatusGroupAlarms", BYTE, "0: no detector has an alarm."),
+    REPORT + (1,): asc("volumeOccupancySequence", BYTE, "The number of the last period, from 0 again after 255."),
+    REPORT + (2,): asc("volumeOccupancyPeriod", "Integer32 (60)", "The seconds of a period. They are fixed."),
+    REPORT + (3,): most("activeVolumeOccupancyDetectors", "rows of volumeOccupancyTable", 16),
+    REPORT + (4, 1, 1): asc("detectorVolume", BYTE, "How many vehicles came onto the detector in the last period."),
+    REPORT + (4, 1, 2): asc(
+        "detectorOccupancy", BYTE, "How long the detector was on in the last period, in half percents.",
+        "above 200, the codes of faults, it has none",
+    ),
+    ASC + (2, 6): most("maxPedestrianDetectors", "pedestrian detectors, one for each phase", 16),
+    PEOPLE + (1,): index("pedestrianDetectorNumber", 16),
+    PEOPLE + (2,): asc("pedestrianDetectorCallPhase", BYTE, "The phase that the button calls: that of its number."),
+    PEOPLE + (3,): asc("pedestrianDetectorNoActivity", BYTE, NO_TEST),
+    PEOPLE + (4,): asc("pedestrianDetectorMaxPresence", BYTE, NO_TEST),
+    PEOPLE + (5,): asc("pedestrianDetectorErraticCounts", BYTE, NO_TEST),
+    PEOPLE + (6,): asc("pedestrianDetectorAlarms", BYTE, "0: no detector has an alarm."),
+}  # fmt: skip
+UNIT: dict[Arcs, Named] = {
+    ASC + (3, 1): asc("unitStartUpFlash", BYTE, "0: start-up is 6 s of red, without flash."),
+    ASC + (3, 2): asc("unitAutoPedestrianClear", "INTEGER { disable(1), enable(2) }", "Always disable."),
+    ASC + (3, 3): asc(
+        "unitBackupTime", "Integer32 (0..65535)",
+        "The seconds without a command after which the cabinet runs free. Only a download of backupTime changes it.",
+    ),
+    ASC + (3, 4): asc(
+        "unitRedRevert", BYTE, "The least phaseRedRevert of the enabled phases, in tenths of a second.",
+        "a unit has a red revert of its own; here only phases have one",
+    ),
+    ASC + (3, 5): asc("unitControlStatus", "INTEGER { systemControl(2) }", "Always systemControl."),
+    ASC + (3, 6): asc("unitFlashStatus", "INTEGER { notFlash(2), automatic(3) }", "Whether the cabinet is in flash."),
+    ASC + (3, 7): asc("unitAlarmStatus2", BYTE, "32 on the way to the offset."),
+    ASC + (3, 8): asc("unitAlarmStatus1", BYTE, "128 coordinated, 64 free, 32 flash."),
+    ASC + (3, 9): asc("shortAlarmStatus", BYTE, "1 preempt, 2 flash."),
+}  # fmt: skip
+COORD: dict[Arcs, Named] = {
+    ASC + (4, 1): asc("coordOperationalMode", BYTE, "0, automatic: systemPatternControl decides."),
+    ASC + (4, 4): asc(
+        "coordForceMode", "INTEGER { other(1), floating(2), fixed(3) }", "forceMode, in the numbers of NTCIP 1202."
+    ),
+    ASC + (4, 6): asc(
+        "patternTableType", "INTEGER { other(1), patterns(2), offset3(3), offset5(4) }", "Always patterns."
+    ),
+    ASC + (4, 5): most("maxPatterns", "patterns", 48),
+    ASC + (4, 8): most("maxSplits", "splits", 32),
+    ASC + (4, 11): asc(
+        "localFreeStatus", "INTEGER { other(1), notFree(2), commandFree(3), transitionFree(4) }",
+        "Whether and why the cabinet is in free operation.",
+    ),
+    ASC + (4, 12): asc(
+        "coordCycleStatus", BYTE, "The whole seconds that are left of the cycle, 0 if no pattern runs.",
+        "the direction in which it counts (here: the seconds left)",
+    ),
+    ASC + (4, 13): asc("coordSyncStatus", BYTE, "The whole seconds since local zero."),
+}  # fmt: skip
+PREEMPTS: dict[Arcs, Named] = {
+    ENTRIES["preempt"] + (16,): asc(
+        "preemptState",
+        "INTEGER { other(1), notActive(2), notActiveWithCall(3), entryStarted(4), trackService(5), dwell(6), "
+        "linkActive(7), exitStarted(8), maxPresence(9) }",
+        "What the preempt does, by the mode and its input. linkActive and maxPresence don't occur.", COLUMN,
+    ),
+    ASC + (6, 1): most("maxPreempts", "preempts", 8),
+    PREEMPT_CONTROL + (1,): index("preemptControlNumber", 8),
+    PREEMPT_STATE: asc(
+        "preemptControlState", "Integer32 (0..1)", "Whether the input of the preempt is on. A Set turns it on or off.",
+        COLUMN,
+    ),
+}  # fmt: skip
+RINGS: dict[Arcs, Named] = {
+    ASC + (7, 1): most("maxRings", "rings", 2),
+    ASC + (7, 2): most("maxSequences", "sequences", 16),
+    ASC + (7, 6, 1, 1): asc(
+        "ringStatus", BYTE,
+        "What the ring does: 0 minimum green, 1 extension, 3 green rest, 4 yellow change, 5 red clearance, 6 red rest. "
+        "Green that has had its minimum is extension if another phase has a call, otherwise rest.",
+        "the bits for gap out, max out and force-off are never set, and 2, maximum, doesn't occur",
+    ),
+}  # fmt: skip
+NAMED: dict[Arcs, Named] = {**system(), **GLOBALS, **PHASES, **DETECTORS, **UNIT, **COORD, **PREEMPTS, **RINGS}
 """The objects by their arcs without the last, in the order of a walk."""
+ROWS: dict[Arcs, Row] = {
+    GLOBAL + (1, 3, 1): Row("module", "moduleNumber", "A module: here one, the software."),
+    PHASE_CONTROL: Row("phaseControlGroup", "phaseControlGroupNumber", "The calls of eight phases."),
+    DETECTOR_GROUP: Row(
+        "vehicleDetectorStatusGroup", "vehicleDetectorStatusGroupNumber", "Eight vehicle detectors."
+    ),
+    DETECTOR_ENTRY: Row("vehicleDetector", "vehicleDetectorNumber", "A vehicle detector: that of a phase."),
+    REPORT + (4, 1): Row("volumeOccupancy", "vehicleDetectorNumber", "What a vehicle detector has counted."),
+    PEOPLE: Row("pedestrianDetector", "pedestrianDetectorNumber", "A push button: that of a phase."),
+    ASC + (7, 6, 1): Row("ringStatus", "sequenceRingNumber", "What a ring does."),
+    PREEMPT_CONTROL: Row("preemptControl", "preemptControlNumber", "The input of a preempt."),
+}  # fmt: skip
+"""The tables of which the front end has all columns that there are, by the arcs of their rows."""
+GROUPS: dict[Arcs, str] = {
+    GLOBAL: "global", GLOBAL + (1,): "globalConfiguration", GLOBAL + (2,): "globalDBManagement",
+    GLOBAL + (3,): "globalTimeManagement", ASC + (2,): "detector", ASC + (2, 5): "volumeOccupancyReport",
+    ASC + (3,): "unit",
+}  # fmt: skip
+"""The nodes above them that ARTERIAL-PROFILE-MIB doesn't have, each below one that is known."""

@@ -5,11 +5,12 @@ import pathlib
 from ..shared.commandline import Parser
 from ..shared.saying import say
 from ..shared.status import Status
-from . import definitions, manual, markdown, mib, program, python, tree
+from . import definitions, front_mib, manual, markdown, mib, program, python, tree
 
 ABOUT = "Says which of the pages that are made from sources aren't current: docs/COMMANDS.md (commands and options), \
 docs/man (manual pages), docs/DEFINITIONS.md (definitions of the proof), docs/OBJECTS.md (objects of SNMP), \
-docs/PYTHON-REFERENCE.md (the package for Python). With --write they are written."
+docs/PYTHON-REFERENCE.md (the package for Python), \
+mibs/ARTERIAL-FRONT-MIB (objects of the front end). With --write they are written."
 EPILOG = """examples:
   tools/reference               # status 2 if a page isn't current
   tools/reference --write
@@ -30,6 +31,7 @@ def pages(top: pathlib.Path) -> dict[str, str]:
     found = {"docs/COMMANDS.md": markdown.page(help, tools, tree.scripts())}
     found["docs/DEFINITIONS.md"] = definitions.page(top)
     found["docs/OBJECTS.md"] = mib.page(top)
+    found["mibs/ARTERIAL-FRONT-MIB"] = front_mib.text()
     found["docs/PYTHON-REFERENCE.md"] = python.page()
     found |= {f"docs/man/{name}": text for name, text in manual.pages(help, tools, version).items()}
     return found

@@ -48,7 +48,8 @@ FRONT = """\
 ## The front end
 
 `./arterial street --as ntcip1202` also answers these objects. They are not proved. The column "Source" says where
-the name and the number come from; the last column says what we doubt in particular.
+the name and the number come from; the last column says what we doubt in particular. `mibs/ARTERIAL-FRONT-MIB` has
+them for tools that read MIB files, except those of RFC 3418.
 """
 
 
@@ -123,8 +124,10 @@ def front() -> Iterator[str]:
         last = sorted(arcs[-1] for arcs in found)
         end = str(last[0]) if len(last) == 1 else f"n, n from {last[0]} to {last[-1]}"
         access = "read, Set" if found[0] in WRITABLE else "read"
-        rows.append((f"`{it.name}`", f"{dotted(base)}.{end}", access, it.source.value, it.doubt))
-    yield table(("Object", "Instance", "Access", "Source", "Doubts"), rows)
+        syntax = it.syntax.replace("Integer32", "INTEGER")
+        shown = (f"`{it.name}`", f"{dotted(base)}.{end}", access, escaped(syntax), escaped(it.text))
+        rows.append((*shown, it.source.value, it.doubt))
+    yield table(("Object", "Instance", "Access", "Values", "Meaning", "Source", "Doubts"), rows)
 
 
 def page(top: pathlib.Path) -> str:

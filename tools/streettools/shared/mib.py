@@ -1,30 +1,37 @@
-"""The names of objects by the MIB (mibs/ARTERIAL-PROFILE-MIB)."""
+"""The names of objects by the MIBs in mibs/ (of the profile, of the front end), and of MIB-2's system group."""
 
 import functools
 import pathlib
 import re
 
 from .ber import Arcs
-from .oids import ENTERPRISES
+from .oids import ENTERPRISES, SYSTEM
 
 HERE = pathlib.Path(__file__).resolve().parents[2]
 """The folder that has the package streettools."""
-MIB = "ARTERIAL-PROFILE-MIB"
-PLACES = [
-    HERE / "arterial/data" / MIB, HERE.parent / "mibs" / MIB,
-    *(it / "share/snmp/mibs" / MIB for it in (HERE.parent, HERE.parent.parent)),
+OWN_MIB, FRONT_MIB = "ARTERIAL-PROFILE-MIB", "ARTERIAL-FRONT-MIB"
+FOLDERS = [
+    HERE / "arterial/data", HERE.parent / "mibs", *(it / "share/snmp/mibs" for it in (HERE.parent, HERE.parent.parent)),
 ]  # fmt: skip
-"""Where the MIB may be: in a wheel, in the checkout, or in an installation."""
+"""Where the MIBs may be: in a wheel, in the checkout, or in an installation."""
+MIB2 = ("sysDescr", "sysObjectID", "sysUpTime", "sysContact", "sysName", "sysLocation", "sysServices")
+"""The objects of the system group, from 1 on."""
 ROOTS = {"enterprises": ENTERPRISES}
 KIND = r"(?:OBJECT-TYPE|OBJECT IDENTIFIER|MODULE-IDENTITY)"
 ASSIGNED = re.compile(r"^([a-z]\w*)\s+" + KIND + r"\b.*?::= \{ (\w+) (\d+) \}", re.M | re.S)
 
 
+def text_of(name: str) -> str:
+    """Returns a MIB without its comments and texts; nothing where it is missing."""
+    file = next((it / name for it in FOLDERS if (it / name).is_file()), None)
+    return re.sub(r'"[^"]*"|--.*', "", file.read_text(encoding="utf-8")) if file else ""
+
+
 @functools.cache
-def objects() -> dict[str, Arcs]:
-    """Returns the arcs of objects by their names; none where the MIB is missing."""
-    file = next((place for place in PLACES if place.is_file()), None)
-    text = re.sub(r'"[^"]*"|--.*', "", file.read_text(encoding="utf-8")) if file else ""
+def objects(*mibs: str) -> dict[str, Arcs]:
+    """Returns the arcs of objects by their names, of all MIBs or of those that are named; none where they are
+    missing."""
+    text = "\n".join(map(text_of, mibs or (OWN_MIB, FRONT_MIB)))
     told = {name: (parent, int(number)) for name, parent, number in ASSIGNED.findall(text)}
     known: dict[str, Arcs] = dict(ROOTS)
 
@@ -41,4 +48,5 @@ def objects() -> dict[str, Arcs]:
 @functools.cache
 def names() -> dict[Arcs, str]:
     """Returns the names of objects by their arcs."""
-    return {found: name for name, found in objects().items()}
+    system = {(*SYSTEM, at): name for at, name in enumerate(MIB2, 1)}
+    return system | {found: name for name, found in objects().items()}

@@ -23,7 +23,7 @@ from .line import Line, Passed, line_of
 from .messages import Messages
 from .ntcip.front import Fronts
 from .pace import TICKS_A_SECOND, Pace
-from .record import Recorder, read_requests
+from .record import Recorder, last_of, last_part, read_requests
 from .replay import Replay
 from .street import Hearer, Street
 
@@ -96,7 +96,8 @@ def round_of(item: dict[str, Any]) -> int:
 def asked_for(given: argparse.Namespace, program: pathlib.Path) -> tuple[dict[str, Any], list[bytes]]:
     """Returns the scenario that the words ask for, and the requests that are to happen again in it."""
     if again := words.again(given):
-        text, requests = read_requests(pathlib.Path(again))
+        named = pathlib.Path(again)
+        text, requests = read_requests(named if given.replay else last_of(named))
         return scenario_of(program, text), requests
     if given.scenario:
         return scenario_of(program, text_of(given.scenario)), []
@@ -110,6 +111,13 @@ def names_of(scenario: str) -> "Names | None":
     return streets.text_of(scenario).names
 
 
+def recorder_of(given: argparse.Namespace) -> Recorder:
+    """Returns the record. One that is resumed into itself goes on with its last session; those before it stay."""
+    record = pathlib.Path(given.record)
+    is_same = given.resume is not None and given.resume in ("", given.record)
+    return Recorder(record, last_part(record) if is_same else 1)
+
+
 def street_of(given: argparse.Namespace, hearers: list[Hearer]) -> tuple[Street, list[bytes]]:
     """Returns the street that the words ask for, and the requests to replay in it."""
     program, is_step = answering(given.program, say), words.is_step(given)
@@ -118,6 +126,7 @@ def street_of(given: argparse.Namespace, hearers: list[Hearer]) -> tuple[Street,
     if given.scenario and (names := names_of(given.scenario)):
         rows = range(1, 1 + len(street.scenario["cabinets"]))
         street.called = {number: names.intersection(number).name for number in rows}
+    street.session_ticks = given.session
     if is_step:
         street.after_message = words.USUAL_STEP if given.ticks_per_message is None else given.ticks_per_message
     return street, requests
@@ -224,13 +233,14 @@ def wire_of(asked: Asked, stack: contextlib.AsyncExitStack) -> ports.Wire | None
 async def served(asked: Asked) -> None:
     """Opens all, and answers until the street ends, or its program dies."""
     given, street, sockets = asked.given, asked.street, asked.sockets
+    fronts = Fronts(street) if given.front else None
     await street.open()
     loop = asyncio.get_running_loop()
     for number in (signal.SIGINT, signal.SIGTERM):
         loop.add_signal_handler(number, street.end)
     async with contextlib.AsyncExitStack() as stack:
         wire = wire_of(asked, stack)
-        asks: ports.Asked = Fronts(street).datagram if given.front else street.datagram
+        asks: ports.Asked = fronts.datagram if fronts else street.datagram
         for transport in await ports.listening(sockets, asked.panel.hearing(asks) if asked.panel else asks, wire):
             stack.callback(transport.close)
         tell_places(street, [ports.place_of(port) for port in sockets])
@@ -270,10 +280,12 @@ def main(arguments: list[str] | None = None) -> int:
     try:
         hearers: list[Hearer] = [Telling()]
         if given.record:
-            hearers.append(Recorder(pathlib.Path(given.record)))
+            hearers.append(recorder_of(given))
         opened = None if given.panel is None else Opened(given)
         street, requests = street_of(given, [*hearers, *(opened.hearers() if opened else ())])
         line = line_of(pathlib.Path(given.line), len(street.scenario["cabinets"])) if given.line else None
+        if opened:
+            line = opened.panel.line = line or Line([], 0)
         wanted = ports.places(words.first_place(given), len(street.scenario["cabinets"]), given.addresses is not None)
         with ports.opened(wanted) as sockets:
             asyncio.run(served(Asked(given, street, requests, sockets, opened, line)))

@@ -4,6 +4,7 @@ A push button has no state: it is pressed, and that is all.
 """
 
 from collections import defaultdict
+from collections.abc import Callable
 from typing import Any
 
 from ..shared.session import Answer
@@ -16,12 +17,18 @@ Key = tuple[str, int, int]
 """A kind, a cabinet, and a place of it, all from 1."""
 
 
+Told = Callable[[int, int, bool, int | None], None]
+"""Is told of a vehicle detector that goes on or off: cabinet, place, whether it is on, and the round that begins with
+it if it is an input of the scenario."""
+
+
 class Inputs:
     """The inputs that are on."""
 
     def __init__(self) -> None:
         self.on: set[Key] = set()
         self.given: dict[int, list[dict[str, Any]]] = {}
+        self.told: Told | None = None
 
     def began(self, scenario: dict[str, Any]) -> None:
         """A session begins, in which nothing is on."""
@@ -43,10 +50,12 @@ class Inputs:
         for it in self.given.pop(number, ()):
             for kind in KINDS:
                 if kind in it:
-                    self.put((kind, it["cabinet"], it[kind]), it["on"])
+                    self.put((kind, it["cabinet"], it[kind]), it["on"], number)
 
-    def put(self, key: Key, is_on: bool) -> None:
-        """Puts an input on or off."""
+    def put(self, key: Key, is_on: bool, number: int | None = None) -> None:
+        """Puts an input on or off, as a round begins if its number is given."""
+        if self.told and key[0] == KINDS[0]:
+            self.told(key[1], key[2], is_on, number)
         if is_on:
             self.on.add(key)
         else:

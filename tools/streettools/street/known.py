@@ -8,10 +8,10 @@ import time
 from collections.abc import Iterator
 from typing import Any
 
-from ..shared.ber import INTEGER, Arcs, Malformed, name_content, number_of
+from ..shared.ber import INTEGER, Arcs, Field, Malformed, name_content, number_content, number_of
 from ..shared.oids import BEGIN, CLOCK
 from ..shared.session import Answer
-from ..shared.snmp import SET, Message, message_of
+from ..shared.snmp import SET, V1, Binding, Message, message_of, octets_of
 from .session import reply_in
 
 DAY = 86_400
@@ -100,6 +100,8 @@ class Clocks:
         self.ticks = 0
         self.known: dict[int, tuple[int, int]] = {}
         """By cabinet: the ticks at which the time was known last, and that time in ticks since 1970."""
+        self.dated: set[int] = set()
+        """The cabinets whose date was set."""
 
     def began(self, scenario: dict[str, Any]) -> None:
         """A session begins, the first one or one that follows another."""
@@ -122,8 +124,16 @@ class Clocks:
 
     def set(self, cabinet: int, number: int, clock: int) -> None:
         """Takes a clock that was set by a message of this number."""
+        if number < 0:
+            self.dated.add(cabinet)
         day = -1 - number if number < 0 else self.expected(cabinet) // TICKS_OF_A_DAY
         self.known[cabinet] = (self.ticks, day * TICKS_OF_A_DAY + clock)
+
+    def setting(self, cabinet: int, clock: int, community: bytes) -> bytes:
+        """Returns the message that sets a clock and names the date that is known."""
+        day = self.expected(cabinet) // TICKS_OF_A_DAY
+        bound = Binding(CLOCK, Field(INTEGER, number_content(clock)))
+        return octets_of(Message(V1, community, SET, -1 - day, 0, 0, [bound]))
 
     def expected(self, cabinet: int) -> int:
         """Returns the time that a cabinet has by the ticks that went by, in ticks since 1970."""

@@ -67,6 +67,14 @@ class Line:
         self.rules, self.seed, self.now = rules, seed, now
         self.begun = now()
         self.dice: dict[tuple[int, str], random.Random] = {}
+        self.is_on = True
+        """Whether the rules count; the panel turns them off and on."""
+        self.hanging: set[int] = set()
+        """The cabinets that get no message and answer none."""
+
+    def is_perfect(self) -> bool:
+        """Tells whether nothing happens to any message."""
+        return not self.hanging and not (self.is_on and self.rules)
 
     def rule(self, cabinet: int, way: str) -> Rule | None:
         """Returns the last rule that is for a cabinet and a direction."""
@@ -74,7 +82,9 @@ class Line:
 
     def passed(self, cabinet: int, way: str, octets: bytes) -> list[Copy]:
         """Returns the copies of a message that arrive: none, one or two. One that doesn't has infinite seconds."""
-        rule = self.rule(cabinet, way)
+        if cabinet in self.hanging:
+            return [Copy(float("inf"), octets, ("hangs",))]
+        rule = self.rule(cabinet, way) if self.is_on else None
         if rule is None:
             return [Copy(0.0, octets, ())]
         if (cabinet, way) not in self.dice:

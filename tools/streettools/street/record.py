@@ -27,6 +27,26 @@ def requests_beside(trace: pathlib.Path) -> pathlib.Path:
     return trace.with_suffix(REQUESTS)
 
 
+def part_of(trace: pathlib.Path, number: int) -> pathlib.Path:
+    """Returns the trace of a session of a record: the first has the record's name, the next a number after it."""
+    return trace if number == 1 else trace.with_stem(f"{trace.stem}.{number}")
+
+
+def last_part(trace: pathlib.Path) -> int:
+    """Returns the number of the last session of a record, 1 if there are no further ones."""
+    number = 1
+    while requests_beside(part_of(trace, number + 1)).is_file():
+        number += 1
+    return number
+
+
+def last_of(path: pathlib.Path) -> pathlib.Path:
+    """Returns the trace of the last session of a record, which is named by its trace or by its requests."""
+    trace = path.with_suffix(".trace") if path.suffix == REQUESTS else path
+    number = last_part(trace)
+    return path if number == 1 else part_of(trace, number)
+
+
 def read_requests(path: pathlib.Path) -> tuple[bytes, list[bytes]]:
     """Returns the text of the scenario and the requests of a record, which is named by its trace or by its requests.
     The program tests the scenario, and each request but those of ticks."""
@@ -39,6 +59,12 @@ def read_requests(path: pathlib.Path) -> tuple[bytes, list[bytes]]:
     return first, found
 
 
+def put_aside(path: pathlib.Path) -> None:
+    """Gives a file that is there the same name with ~ at its end."""
+    if os.path.lexists(path):
+        path.replace(path.with_name(f"{path.name}~"))
+
+
 class Requests:
     """The file of the requests of a session. It holds whole lines at every time, those up to the last ticks."""
 
@@ -47,8 +73,7 @@ class Requests:
         self.path = path
         if path.is_dir():
             raise IsADirectoryError(errno.EISDIR, "Is a directory", str(path))
-        if os.path.lexists(path):
-            path.replace(path.with_name(f"{path.name}~"))
+        put_aside(path)
         self.file = os.open(path, os.O_WRONLY | os.O_CREAT | os.O_EXCL | os.O_NOFOLLOW | os.O_CLOEXEC, 0o600)
         self.end = 0
         self.waiting = b""
@@ -84,27 +109,36 @@ class Recorder(Hearer):
 
     called = "the record"
 
-    def __init__(self, path: pathlib.Path) -> None:
+    def __init__(self, path: pathlib.Path, first: int = 1) -> None:
+        """Records at a path, from the session of this number on; those before it stay."""
         if path.suffix == REQUESTS:
             raise Fault(f"{path}: a record has the name of its trace; its requests get the ending {REQUESTS}")
         if path.is_dir():
             raise IsADirectoryError(errno.EISDIR, "Is a directory", str(path))
         self.path = path
-        self.part = 0
+        self.first, self.part = first, first - 1
         self.record: SessionRecord
         self.requests: Requests
         self.room: Room
 
     def trace_path(self) -> pathlib.Path:
         """Returns the path of the trace of this session."""
-        return self.path if self.part == 1 else self.path.with_stem(f"{self.path.stem}.{self.part}")
+        return part_of(self.path, self.part)
 
     def began(self, scenario: dict[str, Any]) -> None:
         self.part += 1
+        if self.part == self.first:
+            self.put_later_aside()
         self.record, self.room = SessionRecord(scenario, keeps_reads=False), Room(scenario)
         self.requests = Requests(requests_beside(self.trace_path()))
         self.requests.add(scenario_line(scenario))
         self.requests.write()
+
+    def put_later_aside(self) -> None:
+        """Puts the later sessions of an older record aside: they don't follow those that are recorded now."""
+        for number in range(self.part + 1, last_part(self.path) + 1):
+            for path in (part_of(self.path, number), requests_beside(part_of(self.path, number))):
+                put_aside(path)
 
     def heard(self, request: bytes | None, answer: Answer) -> None:
         if self.record.answered(request, answer) and request is not None:

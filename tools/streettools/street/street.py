@@ -7,7 +7,7 @@ is full.
 import asyncio
 import contextlib
 from collections.abc import AsyncIterator, Awaitable, Iterator
-from typing import Any
+from typing import TYPE_CHECKING, Any
 
 from ..shared.fault import Fault
 from ..shared.program import Died
@@ -18,6 +18,9 @@ from .inputs import Inputs
 from .known import Clocks, Downloads
 from .pace import Pace
 from .session import Over, Session, frame, reply_in
+
+if TYPE_CHECKING:
+    from .ntcip.shown import Shown
 
 LONGEST = 1472
 """The octets of the longest message that a cabinet may be given."""
@@ -79,6 +82,10 @@ class Street:
         """The names of intersections, by their numbers."""
         self.after_message = 0
         """How many ticks go by after each datagram."""
+        self.shown: Shown
+        """What the front answers from, where there is one."""
+        self.session_ticks: int | None = None
+        """After how many ticks a session changes at the latest."""
         self.stops_at_end = self.is_replaying = False
         self.order = asyncio.Lock()
         self.session: Session
@@ -225,7 +232,10 @@ class Street:
         """Returns how many ticks are left until the session changes: that is some ticks before its last one, which
         leaves time to read what is carried over. A session with which the street ends doesn't change."""
         total: int = self.scenario["rounds"] * self.scenario["ticks"]
-        return MOST_TICKS if self.stops_at_end else max(0, total - min(total // 4, SPARE) - self.session.taken)
+        last = total - min(total // 4, SPARE)
+        if self.session_ticks is not None and not self.is_replaying:
+            last = min(last, self.session_ticks)
+        return MOST_TICKS if self.stops_at_end else max(0, last - self.session.taken)
 
     async def change(self) -> None:
         """Ends a session, so that the next one continues with what the cabinets have; messages wait meanwhile. If that
@@ -272,12 +282,21 @@ class Street:
         if self.stops_at_end:
             return False
         self.renewals += 1
-        self.lost_at, self.is_carried = self.lost_at if self.is_carried else self.renewals, False
+        is_carried, self.is_carried = self.is_carried, False
+        self.lost_at = self.lost_at if is_carried else self.renewals
         await self.open()
+        if is_carried:
+            await self.keep_dates()
         if self.changing is not None:
             self.changing.set_result(None)
             self.changing = None
         return True
+
+    async def keep_dates(self) -> None:
+        """Tells a session that follows another one the dates that were set: its record has them then."""
+        for cabinet in sorted(self.clocks.dated):
+            clock = self.scenario["cabinets"][cabinet - 1].get("clock", 0)
+            await self.message(cabinet, self.clocks.setting(cabinet, clock, self.community()))
 
     async def close(self) -> None:
         """Ends the session, if that wasn't done, and reports it to all hearers, even if one of them fails; then raises

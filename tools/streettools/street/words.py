@@ -10,6 +10,7 @@ from .ports import LOOPBACK, Place
 USUAL_PORT, USUAL_STEP = 10_161, 10
 SLOWEST, FASTEST = 0.01, 1000.0
 STEP = "step"
+LEAST_HOURS, MOST_HOURS, TICKS_OF_AN_HOUR = 0.01, 24.0, 36_000
 NAME = re.compile(r"[A-Za-z0-9]([A-Za-z0-9.-]{0,251}[A-Za-z0-9])?")
 """The name of a host."""
 
@@ -31,6 +32,17 @@ def speed(text: str) -> float | str:
     if value != 0 and not SLOWEST <= value <= FASTEST:
         raise argparse.ArgumentTypeError(f"{text!r} is not {STEP}, 0, nor from {SLOWEST} to {FASTEST:g}")
     return value
+
+
+def hours(text: str) -> int:
+    """Reads hours, and returns them as ticks."""
+    try:
+        value = float(text)
+    except ValueError:
+        value = -1
+    if not LEAST_HOURS <= value <= MOST_HOURS:
+        raise argparse.ArgumentTypeError(f"{text!r} is not from {LEAST_HOURS} to {MOST_HOURS:g} hours")
+    return round(value * TICKS_OF_AN_HOUR)
 
 
 def first_port(text: str) -> int:
@@ -118,6 +130,10 @@ def parser() -> argparse.ArgumentParser:
         help="replay at once the record of an earlier street (without FILE: that of --record); then the street "
         "continues",
     )
+    words.add_argument(
+        "--session", type=hours, metavar="HOURS",
+        help="begin a new session after this time, in hours of the street: 0.01 to 24 (default: as late as possible)",
+    )  # fmt: skip
     words.add_argument(
         "--line", metavar="FILE", help="a bad line between managers and cabinets, described in TOML (docs/STREET.md)"
     )

@@ -39,6 +39,7 @@ def test_all_stands_where_a_unix_user_looks_for_it(whole, tmp_path):
     assert sorted(it.name for it in (to / "bin").iterdir()) == ["arterial", *(f"arterial-{it}" for it in TOOLS)]
     for name in (
         "snmp/mibs/ARTERIAL-PROFILE-MIB",
+        "snmp/mibs/ARTERIAL-FRONT-MIB",
         "arterial/scenario.schema.json",
         "doc/arterial/examples/one-cabinet.json",
         "doc/arterial/README.md",

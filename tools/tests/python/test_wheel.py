@@ -30,7 +30,8 @@ def backend_of(top: pathlib.Path):
 @pytest.fixture
 def whole(proved):  # noqa: F811
     """A copy in which a stand-in for the program is proved, with all that a wheel is made of."""
-    for name in ("mibs/ARTERIAL-PROFILE-MIB", "docs/scenario.schema.json", "docs/field.schema.json"):
+    mibs = ("mibs/ARTERIAL-PROFILE-MIB", "mibs/ARTERIAL-FRONT-MIB")
+    for name in (*mibs, "docs/scenario.schema.json", "docs/field.schema.json"):
         (proved.top / name).parent.mkdir(exist_ok=True)
         shutil.copy(TOP / name, proved.top / name)
     for name in ("pyproject.toml", "README.md"):
@@ -48,8 +49,8 @@ def test_the_wheel_of_a_proved_checkout_has_the_program_and_its_record(whole, tm
         assert wheel.read(program) == (whole / "crates/arterial/out/arterial").read_bytes()
         assert wheel.read("arterial/data/proof/sums") == (whole / "crates/arterial/out/proved/sums").read_bytes()
         wheel.extractall(tmp_path / "site")
-    for it in ("arterial/py.typed", "arterial/data/ARTERIAL-PROFILE-MIB", "streettools/look/page/parts/page.js",
-               "arterial/data/scenario.schema.json", "streettools/sweep/job.sbatch"):  # fmt: skip
+    for it in ("arterial/py.typed", "arterial/data/ARTERIAL-PROFILE-MIB",
+               "arterial/data/ARTERIAL-FRONT-MIB", "streettools/look/page/parts/page.js", "arterial/data/scenario.schema.json", "streettools/sweep/job.sbatch"):  # fmt: skip
         assert it in names or it.endswith("page.js"), it
     assert any(it.startswith("streettools/look/page/parts/") for it in names)
     assert not any("tests" in pathlib.PurePath(it).parts or "__pycache__" in it for it in names)

@@ -26,6 +26,20 @@ def test_the_objects_of_the_profile_have_the_names_of_its_mib(name):
     assert named(BY_MIB[name]) == name
 
 
+@pytest.mark.parametrize(
+    ("arcs", "name"),
+    [
+        ((1, 3, 6, 1, 2, 1, 1, 5, 0), "sysName.0"),
+        (oids.TRANSACTION, "dbCreateTransaction.0"),
+        ((*oids.PREEMPT_STATE, 4), "preemptControlState.4"),
+        ((*oids.ASC, 3, 9, 0), "shortAlarmStatus.0"),
+    ],
+)
+def test_an_object_of_the_front_has_its_name_in_words(arcs, name):
+    """By RFC 3418, NTCIP 1201 and 1202."""
+    assert named(arcs) == name
+
+
 def test_the_objects_of_standards_have_their_numbers():
     """RFC 3418: system is mib-2 1. NTCIP 8004: the devices of NEMA are enterprise 1206; global is nema 4.2.6 (NTCIP
     1201), asc nema 4.2.1 (NTCIP 1202). globalTime is globalTimeManagement 1, dbCreateTransaction is

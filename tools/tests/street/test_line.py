@@ -9,7 +9,7 @@ import sys
 import pytest
 from streettools.cabinet.messages import reply_of
 from streettools.shared.fault import Fault
-from streettools.street.line import IN, OUT, Line, Rule, line_of
+from streettools.street.line import IN, OUT, Copy, Line, Rule, line_of
 
 from .conftest import CLOCK, PROGRAM, SECONDS, TOP, free_ports
 from .test_agents import TWO, get, written
@@ -58,6 +58,16 @@ def test_a_seed_gives_the_same_line_again_and_cabinets_have_lines_of_their_own()
         others += [mixed.passed(2, IN, b"x"), mixed.passed(1, OUT, b"y")]
         assert mixed.passed(1, IN, b"abcdefgh") == first.pop(0)
     assert passed(line(rule, seed=6), 100) != again
+
+
+def test_a_line_that_is_off_does_nothing_and_a_cabinet_that_hangs_gets_nothing():
+    bad, whole = line({"loss": 100}), [Copy(0.0, b"abc", ())]
+    assert bad.passed(2, IN, b"abc")[0].words == ("lost",) and not bad.is_perfect()
+    bad.is_on = False
+    assert bad.passed(2, IN, b"abc") == whole and bad.is_perfect()
+    bad.hanging.add(2)
+    assert [bad.passed(2, way, b"abc") for way in (IN, OUT)] == 2 * [[Copy(NEVER, b"abc", ("hangs",))]]
+    assert bad.passed(1, IN, b"abc") == whole and not bad.is_perfect()
 
 
 def test_rules_name_cabinets_directions_and_times():

@@ -210,6 +210,29 @@ name = "Elm & 2nd"
 """
 
 
+def test_the_list_of_messages_is_filtered_by_kind_cabinet_and_text(panel, browser):
+    from selenium.webdriver.common.keys import Keys
+
+    running, address = panel("--speed", 0)
+    running.ask(message(SET, 7, [(CONTROL, 99)]))
+    for _ in range(3):
+        running.ask(get(1, VERSION))
+    browser.get(address)
+    awaited(browser, "message-count", "4 of 4")
+    chosen = browser.find_element("id", "message-kind")
+    # all, Get, GetNext, GetBulk, Set, with a fault
+    for keys, left in ((Keys.DOWN, 3), (3 * Keys.DOWN, 1), (Keys.DOWN, 1), (Keys.HOME, 4)):
+        chosen.send_keys(keys)
+        awaited(browser, "message-count", f"{left} of 4")
+    text = browser.find_element("id", "message-text")
+    text.send_keys("badvalue")
+    awaited(browser, "message-count", "1 of 4")
+    running.ask(message(SET, 8, [(CONTROL, 99)]))
+    awaited(browser, "message-count", "2 of 5")
+    browser.find_element("id", "message-cabinet").send_keys(Keys.END)
+    awaited(browser, "message-count", "2 of 5")
+
+
 def test_a_street_of_a_sheet_has_its_names_enabled_phases_and_times(street, browser, tmp_path):
     """Phase 8 is entered by the sheet: it is named as what it is. Of the standard table 9 to 16 aren't enabled. The
     first intersection is drawn at the foot."""
@@ -275,7 +298,8 @@ WRONG = [
     '{"do":"step","ticks":true}',
     '{"do":"speed","speed":-1}', '{"do":"speed","speed":1e9}', "[" * 500, "x" * 3000,
     '{"do":"input","kind":"veh","cabinet":2,"place":4,"on":true}', '{"do":"rate","cabinet":1,"phase":4,"rate":3601}',
-    '{"do":"input","kind":"tick 1\\nveh","cabinet":1,"place":4,"on":true}',
+    '{"do":"input","kind":"tick 1\\nveh","cabinet":1,"place":4,"on":true}', '{"do":"hang","cabinet":2,"on":true}',
+    '{"do":"hang","cabinet":1,"on":1}', '{"do":"line"}', '{"do":"line","on":null}',
 ]  # fmt: skip
 
 
@@ -295,6 +319,41 @@ def test_two_hundred_pages_that_ask_for_nonsense_and_go_away_leave_it_answering(
     assert asyncio.run(crowd())["cabinets"]["1"][1] == "R" * 16
     assert reply_of(running.ask(get(5, VERSION))).number == 5
     assert running.end() == 0
+
+
+def test_a_cabinet_hangs_on_command_and_the_bad_line_is_switched(panel, tmp_path):
+    """The line loses all; it is switched off, the cabinet hangs and answers again."""
+    (tmp_path / "bad.toml").write_text("[[line]]\nloss = 100\n")
+    running, address = panel("--line", tmp_path / "bad.toml", "--speed", 0)
+
+    def answers(number):
+        running.socket.settimeout(0.3)
+        try:
+            return reply_of(running.ask(get(number, VERSION))).number == number
+        except TimeoutError:
+            return False
+
+    async def switched():
+        found = [await asyncio.to_thread(answers, 1)]
+        async with aiohttp.ClientSession() as session:
+            feed, headers = feed_of(address)
+            async with session.ws_connect(feed, headers=headers) as page:
+                for number, (told, due) in enumerate(SWITCHES, 2):
+                    await page.send_json(told)
+                    while (await page.receive_json()).get("line") != {"rules": 1, **due}:
+                        pass
+                    found.append(await asyncio.to_thread(answers, number))
+        return found
+
+    assert asyncio.run(asyncio.wait_for(switched(), SECONDS)) == [False, True, False, True, False]
+
+
+SWITCHES = [
+    ({"do": "line", "on": False}, {"on": False, "hanging": []}),
+    ({"do": "hang", "cabinet": 1, "on": True}, {"on": False, "hanging": [1]}),
+    ({"do": "hang", "cabinet": 1, "on": False}, {"on": False, "hanging": []}),
+    ({"do": "line", "on": True}, {"on": True, "hanging": []}),
+]
 
 
 def test_what_pages_ask_is_recorded(panel, tmp_path):

@@ -7,10 +7,12 @@ import time
 
 import pytest
 from model.promises.judging import broken_promises
-from streettools.cabinet.messages import SET, message
+from streettools.cabinet.messages import SET, message, reply_of
 from streettools.shared import session_record
+from streettools.shared.snmp import RESPONSE, message_of, octets_of
+from streettools.street.known import Clocks
 from streettools.street.pace import Pace
-from streettools.street.record import Recorder
+from streettools.street.record import Recorder, last_of, read_requests
 from streettools.street.street import Street, rounds_for
 
 from .conftest import CLOCK, CONTROL, COUNTER, PROGRAM, SECONDS
@@ -162,3 +164,50 @@ def test_behind_the_last_round_a_new_session_begins(tmp_path):
     assert made.renewals >= 1
     assert (tmp_path / "session.trace").read_bytes().endswith(b"\nZ 4\n")
     assert checked(tmp_path / "session.trace") == (0, b"")
+
+
+def test_a_record_of_several_sessions_is_resumed_from_the_last(street, tmp_path):
+    """Sessions of 360 ticks. Pattern 1 is commanded and the date is set in the first; the second and the third keep
+    both, and so does a street that resumes the last."""
+    file, third = tmp_path / "session.trace", tmp_path / "session.3.dialogue"
+    words = ("--ports", 0, "--record", file, "--session", 0.01)
+    running = street(*words, "--speed", 400)
+    # the number names 1 January 2000, day 10957 since 1970
+    assert reply_of(running.ask(message(SET, -1 - 10_957, [(CLOCK, 1000), (CONTROL, 1)]))).status == 0
+    until = time.monotonic() + SECONDS
+    while not third.is_file() and time.monotonic() < until:
+        running.ask(get(1, CLOCK))
+    assert running.end() == 0
+    kept = file.read_bytes()
+    last = last_of(file)
+    again = street("--ports", 0, "--speed", "step", "--ticks-per-message", 0, "--record", file, "--resume")
+    again.told("ticks have happened again")
+    assert value_in(again.ask(get(1, CONTROL))) == 1
+    assert again.end() == 0
+    assert file.read_bytes() == kept and last_of(file) == last != file
+    for it in (file, last):
+        assert checked(it) == (0, b"")
+    clocks = Clocks(today=20_000)
+    text, requests = read_requests(last)
+    clocks.began(json.loads(text))
+    clocks.heard(requests[0], [b"A 1 3 " + answered(requests[0])])
+    assert clocks.expected(1) // 864_000 == 10_957
+
+
+def answered(request):
+    """Returns the digits of a reply without an error to a Set."""
+    asked = message_of(bytes.fromhex(request.split(b" ")[3].decode()))
+    return octets_of(asked._replace(kind=RESPONSE)).hex().encode()
+
+
+def test_later_sessions_of_an_older_record_are_put_aside(tmp_path):
+    file = tmp_path / "session.trace"
+    for name in ("session.2.dialogue", "session.2.trace", "session.3.dialogue"):
+        (tmp_path / name).touch()
+    recorder = Recorder(file)
+    recorder.began({"version": 1, "rounds": 9, "ticks": 1, "cabinets": [{}]})
+    recorder.requests.close()
+    assert sorted(it.name for it in tmp_path.iterdir()) == [
+        "session.2.dialogue~", "session.2.trace~", "session.3.dialogue~", "session.dialogue",
+    ]  # fmt: skip
+    assert last_of(file) == file

@@ -14,12 +14,14 @@ from ..known import DAY
 from ..street import LONGEST, NOBODY, Manager, Street
 from .judging import has_type, is_of_a_table, of_the_cabinet
 from .managers import Copies, Managers
-from .objects import OBJECTS, ORDER, TYPES, WRITABLE, Front
+from .objects import OBJECTS, ORDER, TYPES, WRITABLE
 from .order import InOrder
 from .pdus import (
     GEN_ERR, MOST_OCTETS, NO_SUCH_NAME, NOT_WRITABLE, WRONG_TYPE, WRONG_VALUE, Fault, asked_of, cut_reply, reply,
     response, whole,
 )  # fmt: skip
+from .reads import Front
+from .shown import Shown
 from .side import Silent
 from .transaction import GATHERING
 
@@ -254,6 +256,8 @@ class Fronts:
 
     def __init__(self, street: Street) -> None:
         self.street = street
+        street.shown = Shown(street)
+        street.hearers.append(street.shown)
         self.sessions = -1
         self.cabinets: list[Cabinet] = []
 

@@ -4,8 +4,6 @@ Names and numbers are those of the public standards as they are known here: MIB-
 and NTCIP 1202. If that is in doubt, docs/CLIENTS.md says so.
 """
 
-from collections.abc import Awaitable, Callable
-
 from ...shared.ber import COUNTER, NAME, TIME_TICKS, Arcs, Field, name_content
 from ...shared.cells import PATTERNS, PREEMPTS, RINGS, SEQUENCES, SPLITS
 from ...shared.oids import (
@@ -15,12 +13,11 @@ from ...shared.oids import (
 )  # fmt: skip
 from ...shared.tables import ALL
 from ...shared.version import VERSION
-from ..street import Street
 from .judging import columns
-from .managers import Managers
+from .operation import operation
 from .pdus import text, whole
-from .side import Side
-from .transaction import Transaction
+from .reads import Front, Read, by_stage, constant, kept
+from .vehicles import vehicles
 
 FLASH, COORD, SEEK = 6, 4, 3
 FREE, PREEMPTED = 2, (7, 8, 9, 10)
@@ -30,48 +27,6 @@ GROUP = 8
 COUNTER_END = 1 << 32
 SET_IDS, SESSION_STEP = 1 << 16, 4099
 """How many values globalSetIDParameter has, and by how much it differs in the next session."""
-
-
-class Front:
-    """What the front keeps of a cabinet."""
-
-    def __init__(self, street: Street, cabinet: int, managers: Managers) -> None:
-        self.street, self.cabinet = street, cabinet
-        self.side = Side(street, cabinet)
-        self.transaction = Transaction(self.side, street.downloads, managers)
-        self.people = [0, 0]
-        """The bits of the calls of people that were set last, by group."""
-
-
-Read = Callable[[Front], Awaitable[Field]]
-
-
-def constant(value: Field) -> Read:
-    """Returns a reader of a value that doesn't change."""
-
-    async def read(front: Front) -> Field:
-        return value
-
-    return read
-
-
-def kept(told: Callable[[Front], Field]) -> Read:
-    """Returns a reader of a value that the front keeps."""
-
-    async def read(front: Front) -> Field:
-        return told(front)
-
-    return read
-
-
-def by_stage(told: Callable[[Transaction], Field]) -> Read:
-    """Returns a reader of a value of the transaction, which follows the cabinet's stage."""
-
-    async def read(front: Front) -> Field:
-        await front.transaction.look()
-        return told(front.transaction)
-
-    return read
 
 
 async def up_time(front: Front) -> Field:
@@ -215,7 +170,7 @@ def preempts() -> dict[Arcs, Read]:
     return made
 
 
-OBJECTS: dict[Arcs, Read] = {**scalars(), **modules(), **calls(), **preempts()}
+OBJECTS: dict[Arcs, Read] = {**scalars(), **modules(), **calls(), **preempts(), **operation(), **vehicles()}
 ORDER = sorted(OBJECTS)
 WRITABLE: set[Arcs] = {GLOBAL_TIME, TRANSACTION}
 WRITABLE |= {column + (group,) for column in (VEH_CALL, PED_CALL) for group in (1, 2)}

@@ -62,7 +62,22 @@ class View:
     cabinet: int
 
 
-Order = Input | Pulse | Rate | Speed | Step | View
+@dataclass(frozen=True)
+class BadLine:
+    """The bad line, on or off."""
+
+    is_on: bool
+
+
+@dataclass(frozen=True)
+class Hang:
+    """A cabinet that hangs, or doesn't any more."""
+
+    cabinet: int
+    is_on: bool
+
+
+Order = Input | Pulse | Rate | Speed | Step | View | BadLine | Hang
 
 
 def whole(value: Any, low: int, high: int) -> int:
@@ -93,6 +108,13 @@ def input_of(told: dict[str, Any], cabinets: int) -> Input:
     return Input(request.encode())
 
 
+def switch(value: Any) -> bool:
+    """Returns whether something is to be on."""
+    if not isinstance(value, bool):
+        raise Wrong
+    return value
+
+
 def order_of(text: str, cabinets: int) -> Order:
     """Returns the order that a text is; raises Wrong if it isn't accepted."""
     try:
@@ -115,4 +137,8 @@ def order_of(text: str, cabinets: int) -> Order:
         return Step(whole(told.get("ticks"), 1, MOST_STEP))
     if do == "view":
         return View(whole(told.get("cabinet"), 0, cabinets))
+    if do == "line":
+        return BadLine(switch(told.get("on")))
+    if do == "hang":
+        return Hang(whole(told.get("cabinet"), 1, cabinets), switch(told.get("on")))
     raise Wrong

@@ -12,6 +12,7 @@ from ...cabinet.messages import GET, message
 from ...shared import oids
 from ...shared.fault import Fault
 from ...shared.status import Status
+from ..line import Line
 from ..street import Hearer, Street
 from . import in_force, orders
 from .layout import facts
@@ -75,6 +76,7 @@ class Panel(Hearer):
         self.street: Street
         self.pages: set[Page] = set()
         self.streams = Streams()
+        self.line = Line([], 0)
         self.pulses: list[tuple[int, bytes]] = []
         self.tasks: list[asyncio.Task[None]] = []
 
@@ -140,6 +142,7 @@ class Panel(Hearer):
             "step": self.street.after_message,
             "inputs": self.street.inputs.names(),
             "rates": self.streams.rates(),
+            "line": {"rules": len(self.line.rules), "on": self.line.is_on, "hanging": sorted(self.line.hanging)},
             "ending": self.shown.ending,
         }
 
@@ -243,6 +246,10 @@ class Panel(Hearer):
         elif isinstance(order, orders.Step):
             self.street.pace.step(order.ticks)
             self.street.wake()
+        elif isinstance(order, orders.BadLine):
+            self.line.is_on = order.is_on
+        elif isinstance(order, orders.Hang):
+            (self.line.hanging.add if order.is_on else self.line.hanging.discard)(order.cabinet)
         else:
             page.cabinet = order.cabinet
 

@@ -5,7 +5,8 @@ const COLOURS = { G: "green", Y: "yellow change", C: "red clearance", R: "red" }
 const SIGNALS = { W: "walk", F: "flashing don't walk", D: "don't walk" };
 const STAGES = { e: "on the way", t: "track clearance", d: "dwell", x: "exit" };
 const KEPT = 200;
-const known = { facts: [], names: {}, cabinets: {}, now: 0, speed: 1, inputs: new Set(), rates: {}, greens: {}, details: {} };
+const known = { facts: [], names: {}, cabinets: {}, now: 0, speed: 1, inputs: new Set(), rates: {}, greens: {}, details: {},
+  line: { rules: 0, on: true, hanging: [] } };
 const by = (id) => document.getElementById(id);
 let socket = null;
 let viewed = 0;
@@ -73,6 +74,7 @@ function take(told) {
     known.speed = told.speed;
     known.inputs = new Set(told.inputs);
     known.rates = told.rates;
+    known.line = told.line;
     showTime(told);
   }
   if (told.details) known.details = told.details;
@@ -82,6 +84,7 @@ function take(told) {
   }
   (told.notes || []).forEach(addNote);
   (told.messages || []).forEach(addMessage);
+  if (told.all || (told.messages || []).length) countMessages();
   show();
 }
 
@@ -100,14 +103,44 @@ function addMessage([tick, cabinet, asked, answered]) {
   const body = by("messages").tBodies[0];
   const row = made("tr");
   for (const text of [moment(tick), cabinet, asked, answered]) row.append(made("td", "", text));
+  row.hidden = !isWanted(row);
   body.prepend(row);
   while (body.children.length > KEPT) body.lastChild.remove();
+}
+
+// Tells whether a message is one of those that the fields above the list ask for.
+function isWanted(row) {
+  const [, cabinet, asked, answered] = Array.from(row.cells, (it) => it.textContent);
+  const [number, kind] = [by("message-cabinet").value, by("message-kind").value];
+  const text = by("message-text").value.trim().toLowerCase();
+  if (number && cabinet !== number) return false;
+  if (kind === "fault" ? !/^silence$|^\w+ at \d+$/.test(answered) : kind && asked.split(" ")[0] !== kind) return false;
+  return !text || `${asked} ${answered}`.toLowerCase().includes(text);
+}
+
+function filterMessages() {
+  for (const row of by("messages").tBodies[0].children) row.hidden = !isWanted(row);
+  countMessages();
+}
+
+function countMessages() {
+  const rows = [...by("messages").tBodies[0].children];
+  put(by("message-count"), `${rows.filter((it) => !it.hidden).length} of ${rows.length}`);
+}
+
+function buildMessageFilter() {
+  const chosen = by("message-cabinet").value;
+  const options = known.facts.map((it) => new Option(cabinetTitle(it.number), it.number));
+  by("message-cabinet").replaceChildren(new Option("all", ""), ...options);
+  by("message-cabinet").value = chosen;
 }
 
 function showTime(told) {
   const stands = known.speed === 0;
   by("pause").setAttribute("aria-pressed", String(stands));
   put(by("pause"), stands ? "Go on" : "Pause");
+  by("bad-line").hidden = known.line.rules === 0;
+  press("bad-line", known.line.on);
   if (!stands) {
     resumed = known.speed;
     if (document.activeElement !== by("speed")) showSpeed(String(known.speed));
@@ -384,6 +417,7 @@ function showCabinet() {
   layRings(shown);
   showFacts(shown);
   for (const p of known.facts[viewed - 1].phases) showPhase(p, shown);
+  press("hang", known.line.hanging.includes(viewed));
   for (let n = 1; n <= 8; n += 1) press(`preempt-${n}`, known.inputs.has(`preempt ${viewed} ${n}`));
 }
 
@@ -394,6 +428,7 @@ function build() {
   document.title = known.names.title || "Street";
   buildCards();
   buildTravel();
+  buildMessageFilter();
   buildCabinet();
 }
 
@@ -429,12 +464,17 @@ function connect() {
 }
 
 by("pause").addEventListener("click", () => ask({ do: "speed", speed: known.speed === 0 ? resumed : 0 }));
+by("bad-line").addEventListener("click", () => ask({ do: "line", on: !known.line.on }));
+by("hang").addEventListener("click", () => {
+  ask({ do: "hang", cabinet: viewed, on: !known.line.hanging.includes(viewed) });
+});
 by("tick").addEventListener("click", () => ask({ do: "step", ticks: 1 }));
 by("second").addEventListener("click", () => ask({ do: "step", ticks: 10 }));
 by("speed").addEventListener("change", () => ask({ do: "speed", speed: Number(by("speed").value) }));
 for (const id of ["minutes", "outbound", "inbound"]) {
   by(id).addEventListener("change", () => drawDiagram(known));
 }
+for (const id of ["message-cabinet", "message-kind", "message-text"]) by(id).addEventListener("input", filterMessages);
 window.addEventListener("hashchange", look);
 viewed = Number(location.hash.slice(1)) || 0;
 by("overview").hidden = viewed !== 0;
