@@ -48,5 +48,5 @@ def begun(given: Given, seeds: tuple[int, ...], wanted: Wanted | None) -> tuple[
 
 
 def added(seeds: tuple[int, ...], count: int) -> tuple[int, ...]:
-    """Returns so many seeds to go on with: the numbers after the greatest one."""
+    """Returns further seeds, as many as asked for: the numbers after the greatest one."""
     return tuple(range(max(seeds) + 1, max(seeds) + 1 + count))

@@ -54,7 +54,7 @@ def mean_of(values: list[float]) -> Mean:
 
 
 def beyond(value: float, freedom: int) -> float:
-    """Returns how likely it is that Student's t with so many degrees of freedom is at least as far from 0, on either
+    """Returns how likely it is that Student's t with these degrees of freedom is at least as far from 0, on either
     side, as a value: by the finite sums for whole degrees of freedom (Abramowitz and Stegun, 26.7.3 and 26.7.4)."""
     angle = math.atan(abs(value) / math.sqrt(freedom))
     power = math.cos(angle) if freedom % 2 else 1.0
@@ -68,7 +68,7 @@ def beyond(value: float, freedom: int) -> float:
 
 def paired_p(differences: list[float]) -> float | None:
     """Returns the p value of the paired t test: how likely differences of a mean at least as far from 0 are, if there
-    is none; None for one pair alone."""
+    is none; None for one pair only."""
     if len(differences) < 2:
         return None
     mean, deviation = statistics.fmean(differences), statistics.stdev(differences)

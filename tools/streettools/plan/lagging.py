@@ -33,7 +33,7 @@ def lagging_pairs(laid: Layout) -> Iterator[tuple[int, int]]:
 
 
 def rooms_after(laid: Layout, phase: int, partners: list[int]) -> dict[int, int]:
-    """Returns the ticks that each phase to be served in the group after a phase's has beyond its least service, if it
+    """Returns the ticks that each phase to be served in the group after a phase's has beyond its minimum service, if it
     is the first of its group that is called."""
     after = laid.sides[(laid.sides.index(laid.side(phase)) + 1) % len(laid.sides)]
     begins = min(laid.slots[it][0] for it in after)

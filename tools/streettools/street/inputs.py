@@ -18,7 +18,7 @@ Key = tuple[str, int, int]
 
 
 Told = Callable[[int, int, bool, int | None], None]
-"""Is told of a vehicle detector that goes on or off: cabinet, place, whether it is on, and the round that begins with
+"""Hears of a vehicle detector that turns on or off: cabinet, place, whether it is on, and the round that begins with
 it if it is an input of the scenario."""
 
 

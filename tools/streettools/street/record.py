@@ -33,7 +33,7 @@ def part_of(trace: pathlib.Path, number: int) -> pathlib.Path:
 
 
 def last_part(trace: pathlib.Path) -> int:
-    """Returns the number of the last session of a record, 1 if there are no further ones."""
+    """Returns the number of the last session of a record, 1 if it has only one."""
     number = 1
     while requests_beside(part_of(trace, number + 1)).is_file():
         number += 1

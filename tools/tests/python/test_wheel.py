@@ -49,8 +49,9 @@ def test_the_wheel_of_a_proved_checkout_has_the_program_and_its_record(whole, tm
         assert wheel.read(program) == (whole / "crates/arterial/out/arterial").read_bytes()
         assert wheel.read("arterial/data/proof/sums") == (whole / "crates/arterial/out/proved/sums").read_bytes()
         wheel.extractall(tmp_path / "site")
-    for it in ("arterial/py.typed", "arterial/data/ARTERIAL-PROFILE-MIB",
-               "arterial/data/ARTERIAL-FRONT-MIB", "streettools/look/page/parts/page.js", "arterial/data/scenario.schema.json", "streettools/sweep/job.sbatch"):  # fmt: skip
+    for it in ("arterial/py.typed", "arterial/data/ARTERIAL-PROFILE-MIB", "arterial/data/ARTERIAL-FRONT-MIB",
+               "streettools/look/page/parts/page.js", "arterial/data/scenario.schema.json",
+               "streettools/sweep/job.sbatch"):  # fmt: skip
         assert it in names or it.endswith("page.js"), it
     assert any(it.startswith("streettools/look/page/parts/") for it in names)
     assert not any("tests" in pathlib.PurePath(it).parts or "__pycache__" in it for it in names)

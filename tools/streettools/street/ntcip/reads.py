@@ -52,5 +52,5 @@ def by_stage(told: Callable[[Transaction], Field]) -> Read:
 
 
 def rows(entry: Arcs, count: int, columns: dict[int, Callable[[int], Read]]) -> dict[Arcs, Read]:
-    """Returns the cells of a table of so many rows, from what reads a row's cell in each column."""
+    """Returns the cells of a table of this number of rows, by the function that reads a row's cell in each column."""
     return {entry + (column, row): read(row) for column, read in columns.items() for row in range(1, count + 1)}

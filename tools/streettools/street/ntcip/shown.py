@@ -1,4 +1,4 @@
-"""What a street shows and is told that the front answers from: the last frame of each cabinet, and its vehicles."""
+"""What the front answers from: the last frame of each cabinet, and the inputs of its vehicle detectors."""
 
 from dataclasses import dataclass, field
 from typing import Any
@@ -58,7 +58,7 @@ class Count:
 
 
 class Volumes(Hearer):
-    """The vehicles that each detector was told, period by period of the street's time."""
+    """The vehicles at each detector, by period of the street's time."""
 
     def __init__(self) -> None:
         self.counts: dict[tuple[int, int], Count] = {}
