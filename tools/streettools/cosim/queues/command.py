@@ -70,7 +70,7 @@ def asked_of(words: argparse.Namespace, seconds: float) -> Asked:
         raise Fault(f"{seconds:g} s is not a whole number of steps of {words.step} s")
     if words.warm >= seconds:
         raise Fault(f"--warm {words.warm} leaves nothing of {seconds:g} s to measure")
-    return Asked(seconds, step, words.seed, words.warm, words.keep_inputs, keeps_trace=True)
+    return Asked(seconds, step, words.seed, words.warm, words.keep_inputs, words.output is not None)
 
 
 def maker_of(path: pathlib.Path | None, scenario: dict[str, Any]) -> queue_study.Makes | None:
