@@ -25,6 +25,7 @@ from .errors import (
     ProgramDied,
     Refused,
 )
+from .judging import Judgement, judge
 from .lives import AsyncStreet, Outcome, Step, Street, live, live_async
 from .pictures import Picture
 from .plans import Band, Bands, Finding, Plan
@@ -50,11 +51,11 @@ if TYPE_CHECKING:
     from . import env as env
 
 __all__ = [
-    "AsyncStreet", "Band", "Bands", "Busy", "Cabinet", "Cancel", "Entry", "Error", "Finding", "Frame", "Late",
-    "LinkFault", "Load", "Master", "Message", "Missing", "NoCabinet", "NoProgram", "NotATrace", "Outcome", "Over",
-    "Pedestrian", "Picture", "Plan", "Preempt", "Program", "ProgramDied", "Refused", "Request", "Scenario", "Step",
-    "Street", "Trace", "Unproved", "Vehicle", "Verdict", "__version__", "check", "env", "live", "live_async", "program",
-    "run",
+    "AsyncStreet", "Band", "Bands", "Busy", "Cabinet", "Cancel", "Entry", "Error", "Finding", "Frame", "Judgement",
+    "Late", "LinkFault", "Load", "Master", "Message", "Missing", "NoCabinet", "NoProgram", "NotATrace", "Outcome",
+    "Over", "Pedestrian", "Picture", "Plan", "Preempt", "Program", "ProgramDied", "Refused", "Request", "Scenario",
+    "Step", "Street", "Trace", "Unproved", "Vehicle", "Verdict", "__version__", "check", "env", "judge", "live",
+    "live_async", "program", "run",
 ]  # fmt: skip
 
 

@@ -19,7 +19,9 @@ docstrings and the types; a test compares it, and another one runs the examples.
 the package. Times are in seconds unless a name says otherwise; a tick is 0.1 s.
 """
 GROUPS = (
-    ("Runs and traces", ("run", "check", "Verdict", "Trace", "Frame", "Picture", "program", "Program")),
+    ("Runs and traces", (
+        "run", "check", "Verdict", "judge", "Judgement", "Trace", "Frame", "Picture", "program", "Program",
+    )),
     ("Live sessions", ("live", "Street", "Step", "Outcome", "live_async", "AsyncStreet")),
     ("Plans", ("Plan", "Finding", "Bands", "Band")),
     ("Scenarios", (

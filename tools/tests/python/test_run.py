@@ -143,6 +143,18 @@ def test_what_is_to_be_checked_has_to_be_text():
         arterial.check("/nowhere")
 
 
+def test_a_trace_is_judged_by_what_it_shows(monkeypatch):
+    """Phases 1 and 2 of one ring are in conflict: at tick 60 the first of them is green in the changed trace, too."""
+    trace = arterial.run({"version": 1, "rounds": 1, "ticks": 60, "cabinets": [{"base": "max8"}]})
+    kept, wrong = arterial.judge(trace), arterial.judge(trace.text.replace(b"F 1 60 RG", b"F 1 60 GG"))
+    assert kept and kept.broken == ()
+    assert not wrong and wrong.broken[0].startswith("apart: cabinet 1, tick 60: ")
+    assert arterial.judge("S {}\n").broken[0].startswith("no trace: ")
+    monkeypatch.setattr("arterial.judging.has_model", lambda: False)
+    with pytest.raises(arterial.Missing, match="independent model"):
+        arterial.judge(trace)
+
+
 def test_exceptions_go_from_process_to_process():
     for fault in (
         arterial.Refused("scenario: limit rounds", ("words",)), arterial.ProgramDied("gone", 6),
