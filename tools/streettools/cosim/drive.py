@@ -3,13 +3,11 @@ TraCI, which takes several times as long.
 """
 
 import contextlib
-import gzip
 import importlib
 import math
 import os
 import pathlib
 import sys
-import xml.etree.ElementTree as xml
 from collections.abc import Callable, Iterator
 from dataclasses import dataclass
 from typing import Any
@@ -64,13 +62,9 @@ class Config:
 
 
 def has_persons(path: pathlib.Path) -> bool:
-    """Tells whether a file has persons; one that can't be read is for SUMO to refuse."""
-    with contextlib.suppress(OSError, xml.ParseError):
-        with gzip.open(path) if path.suffix == ".gz" else open(path, "rb") as text:
-            for _, element in xml.iterparse(text, ("start",)):
-                if element.tag in PERSONS:
-                    return True
-                element.clear()
+    """Returns whether a file has persons; SUMO itself refuses a file that can't be read."""
+    with contextlib.suppress(Fault):
+        return any(element.tag in PERSONS for element in root_of(path).iter())
     return False
 
 

@@ -1,4 +1,4 @@
-"""What the front answers of rings, preempts, the unit and detectors, from what a cabinet shows and is told."""
+"""The front's objects of rings, preempts, the unit and detectors follow the frames and the inputs of a cabinet."""
 
 import asyncio
 

@@ -391,7 +391,7 @@ class Calls:
 
 
 def steps_of(work):
-    """Returns how many functions each step of some work calls: between two steps the street does what is due else."""
+    """Returns the number of functions that each step of some work calls; between two steps the street does its work."""
     found = []
     while True:
         with Calls() as calls:

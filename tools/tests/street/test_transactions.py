@@ -21,7 +21,7 @@ REPEATED = 2
 END = ber.Field(ber.INTEGER, bytes([NORMAL]))
 TRIES = 3
 LOST, UNHEARD, LATE, TWICE, WELL = range(5)
-"""What a line does to a message: it is lost, its reply is, it comes later, it comes again later, or all is well."""
+"""The faults of a line: the message is lost, its reply is lost, it arrives late, a copy arrives late, or none."""
 FATES = [LOST, UNHEARD, LATE, TWICE, *[WELL] * 8]
 
 
@@ -61,7 +61,7 @@ class World:
         return reply
 
     async def look(self):
-        """Reads the greens in force. Those that are new are those of a download, whole, whose manager was told so."""
+        """Reads the greens in force. New greens must be those of one whole download whose manager received "done"."""
         asked = message(snmp.GET, 1, *((name, None) for name in GREENS), version=snmp.V1)
         found = snmp.message_of(await self.street.message(1, asked))
         now = {it.arcs: number_of(it) for it in found.bindings}

@@ -39,17 +39,9 @@ def read_street(path: pathlib.Path | str) -> Street:
         found = taking.sheet(str(path))
         return Street(found.scenario, found.names)
     scenario = read_scenario(content_of(path), str(path))
-    return Street(scenario, beside(pathlib.Path(path)))
+    from ...plan import streets
 
-
-def beside(path: pathlib.Path) -> "Names | None":
-    """Returns the names that are next to a scenario, if there are any."""
-    file = path.with_name(path.name.removesuffix(".json") + ".names.json")
-    if str(path) == "-" or not file.is_file():
-        return None
-    from ...look import called  # takes a while
-
-    return called.read(str(file)).names
+    return Street(scenario, streets.names_beside(str(path)))
 
 
 def fitted(volumes: Volumes, street: Street) -> Volumes:
