@@ -47,8 +47,9 @@ impl LogJudge {
         };
         for cabinet in &scenario.cabinets {
             let watch = CabinetWatch::new(&opening_tables(cabinet), terms.joined);
-            if cabinets.push(watch).is_err() {
-                return Err(NoMemory);
+            match cabinets.push(watch) {
+                Ok(()) => {}
+                Err(_) => return Err(NoMemory),
             }
         }
         let Ok(line) = Vec::with_capacity(alloc, LONGEST) else {

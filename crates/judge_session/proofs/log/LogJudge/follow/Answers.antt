@@ -1,11 +1,16 @@
-use Rattle.std.proofs.Common.{sym, subst}
+use Rattle.std.proofs.Common.{◌∙◌, ℕ, Result, Err, ap, sym, subst}
+use Rattle.sig_types.specs.declared.notes.Broken.{Broken}
+use Rattle.trace_text.specs.declared.lines.Line.TheVariants.{L}
 use Rattle.trace_text.specs.declared.lines.Line.{Line}
 use Rattle.judge_session.specs.Standing.{FollowsOn}
 use Rattle.judge_session.proofs.Judging.{passes}
 use Rattle.judge_session.proofs.log.LogJudge.follow.Goals as goal
 
 pub returns-in-Err : goal.returns-in-Err
-returns-in-Err c = λ s terms before so. ?
+returns-in-Err c = λ s terms before so.
+    subst (λ (l : Line). FollowsOn c.args.self.now s terms before l c.args.out.now.items c.args.out.now.items)
+    (sym (c.in-L.is ∙ ap (λ (r : Result ℕ Broken). L c.in-L.cab c.in-L.id r) c.in-Err.is))
+    (passes c.args.self.now s terms before c.args.out.now.items (L c.in-L.cab c.in-L.id (Err c.in-Err.field-0)) tt so)
 
 pub returns-in-S : goal.returns-in-S
 returns-in-S c = λ s terms before so.
