@@ -1,8 +1,10 @@
 -- What is kept of a log, one line after another.
-use Rattle.std.proofs.Common.{◌≡◌, ◌≢◌, ◌∙◌, ℕ, ◌+◌, ◌-◌, ◌<◌, ◌≤◌, ◌==◌, ◌&&◌, nat_lt, nat_le, not, zero, suc, Bool, true, false, if◌then◌else◌, List, [], ◌∷◌, ◌++◌, length, get_or, slice_set, max, Option, Some, None, is_none, Result, Ok, Err, sym, ap, refl, arith, subst, inl, inr, append-nil, length-set, get_or-set_same, get_or-set_other}
-use Rattle.std.proofs.lemmas.Bool.{eq-eqb, eqb-true, false≢true, le-leb, lt-leb}
+use Rattle.std.proofs.Common.{◌≡◌, ◌≢◌, ◌∙◌, ℕ, ◌+◌, ◌-◌, ◌<◌, ◌≤◌, ◌==◌, ◌&&◌, nat_lt, nat_le, not, zero, suc, Bool, true, false, if◌then◌else◌, List, [], ◌∷◌, ◌++◌, length, get_or, slice_set, max, Option, Some, None, is_none, option_map, map, slice_get, Result, Ok, Err, sym, ap, refl, arith, subst, inl, inr, append-nil, length-set, get_or-set_same, get_or-set_other}
+use Rattle.std.proofs.lemmas.Bool.{eqb-true, false≢true, cases_lt}
 use Rattle.std.proofs.lemmas.Bool.Decides.{eqb_tells}
-use Rattle.std.proofs.lemmas.List.{length-append, get_or_default}
+use Rattle.std.proofs.lemmas.List.{length-append, get_or_append_left}
+use Rattle.std.proofs.Math.Seq.{get_or-append_seam}
+use Rattle.std.proofs.lemmas.Option.{slice_get-map}
 use Rattle.sig_types.specs.declared.frame.Colour.{Colour}
 use Rattle.sig_types.specs.declared.frame.Ped.{Ped}
 use Rattle.sig_types.specs.declared.frame.Mode.{Mode}
@@ -10,7 +12,9 @@ use Rattle.trace_text.specs.declared.lines.Line.{Line}
 use Rattle.trace_text.specs.declared.lines.Line.TheVariants.{S, F, R, M, J, L, A, Z}
 use Rattle.safety_laws.specs.Safe.{Indications, told}
 use Rattle.safety_laws.specs.Whole.{downloads}
-use Rattle.scenario_data.specs.Content.{ScenarioContent, scenario_content}
+use Rattle.scenario_data.specs.declared.scenario.Cabinet.{Cabinet}
+use Rattle.scenario_data.specs.Content.{ScenarioContent, scenario_content, cabinet_content}
+use Rattle.scenario_data.specs.Opening.{opening_tables}
 use Rattle.judge_laws.specs.declared.Terms.{Terms}
 use Rattle.judge_laws.specs.declared.Breach.{Breach}
 use Rattle.judge_laws.specs.Overrun.{last_tick}
@@ -20,9 +24,9 @@ use Rattle.judge_session.specs.declared.watch.CabinetWatch.{CabinetWatch}
 use Rattle.judge_session.specs.declared.log.LogJudge.{LogJudge}
 use Rattle.sig_tables.specs.declared.cells.Cell.{Cell}
 use Rattle.sig_tables.specs.Cells.{Content}
-use Rattle.judge_session.specs.Told.{has_cabinet, load_told, is_known}
+use Rattle.judge_session.specs.Told.{has_cabinet, load_told, is_known, opening_or}
 use Rattle.judge_session.specs.Log.{IsRead, IsFault, fault_of, frame_fault, load_fault, is_later}
-use Rattle.judge_session.specs.Report.{line_found, log_found, breaches_text, unknown_by, unknown_text, line_report}
+use Rattle.judge_session.specs.Report.{line_found, log_found, breaches_text, unknown_by, unknown_text, line_report, numbers_from}
 use Rattle.judge_session.specs.Standing.{WatchStands, JudgeStands, FollowsOn, Adds}
 use Rattle.judge_session.proofs.Watching.{other-frame, other-load}
 
@@ -219,3 +223,39 @@ is-fault s before bytes line NoCabinet r h = (line, r, h)
 is-fault s before bytes line NotLater r h = (line, r, h)
 is-fault s before bytes line FrameVersion r h = (line, r, h)
 is-fault s before bytes line LoadVersion r h = (line, r, h)
+
+-- one cabinet more before any line
+pub opened-more : (s : ScenarioContent) (joined : Bool) (ws : List CabinetWatch) (new : CabinetWatch) (n : ℕ) → length ws ≡ n
+    → ((k : ℕ) (w : CabinetWatch) → k < n → WatchStands (get_or ws k w) s joined (k + 1) []) → WatchStands new s joined (n + 1) []
+    → (k : ℕ) (w : CabinetWatch) → k < n + 1 → WatchStands (get_or (ws ++ new ∷ []) k w) s joined (k + 1) []
+opened-more s joined ws new n many old own k w below = elim (cases_lt k n) [
+  | inl low ↦
+      let fits : k < length ws = omega (arith, low, many) in
+      subst (λ (x : CabinetWatch). WatchStands x s joined (k + 1) []) (sym (get_or_append_left ws (new ∷ []) w k fits)) (old k w low)
+  | inr high ↦
+      let e : n ≡ k = omega (arith, high, below) in
+      let f : length ws ≡ k = omega (arith, high, below, many) in
+      subst (λ (x : CabinetWatch). WatchStands x s joined (k + 1) [])
+      (sym (ap (λ (i : ℕ). get_or (ws ++ new ∷ []) i w) (sym f) ∙ get_or-append_seam ws new [] w))
+      (subst (λ (i : ℕ). WatchStands new s joined (i + 1) []) e own)
+]
+
+-- the tables that a cabinet opens with
+get-some : (xs : List Cabinet) (n : ℕ) (c : Cabinet) → n < length xs → c ≡ get_or xs n c → slice_get xs n ≡ Some c
+get-some [] n c below e = absurd (omega (arith, below))
+get-some (x ∷ xs) zero c below e = ap Some (sym e)
+get-some (x ∷ xs) (suc n) c below e = get-some xs n c (omega (arith, below)) e
+
+pub opening-is : (xs : List Cabinet) (n : ℕ) (c : Cabinet) → n < length xs → c ≡ get_or xs n c
+    → opening_or (slice_get (map cabinet_content xs) (n + 1 - 1)) ≡ opening_tables (cabinet_content c)
+opening-is xs n c below e =
+    let f : n + 1 - 1 ≡ n = omega arith in
+    ap (λ (i : ℕ). opening_or (slice_get (map cabinet_content xs) i)) f
+    ∙ ap opening_or (slice_get-map cabinet_content xs n ∙ ap (λ (o : Option Cabinet). option_map cabinet_content o) (get-some xs n c below e))
+
+-- the numbers of the cabinets from a place on
+pub numbers-next : (k n : ℕ) → k < n → numbers_from (k + 1) (n - k) ≡ (k + 1) ∷ numbers_from (k + 1 + 1) (n - (k + 1))
+numbers-next k n below = let e : n - k ≡ suc (n - (k + 1)) = omega (arith, below) in rw e refl
+
+pub numbers-none : (k n : ℕ) → n ≤ k → numbers_from (k + 1) (n - k) ≡ []
+numbers-none k n all = let e : n - k ≡ 0 = omega (arith, all) in rw e refl
