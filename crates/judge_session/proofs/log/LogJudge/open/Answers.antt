@@ -1,5 +1,6 @@
 use Rattle.std.proofs.Common.{◌≡◌, ◌∙◌, ◌+◌, ◌<◌, ◌++◌, ◌∷◌, [], ℕ, List, length, map, get_or, ap, refl, sym, subst, arith}
 use Rattle.std.proofs.lemmas.List.{length-append, length-map}
+use Rattle.scenario_data.specs.declared.scenario.Cabinet.{Cabinet}
 use Rattle.scenario_data.specs.Content.{scenario_content, cabinet_content}
 use Rattle.judge_session.specs.declared.watch.CabinetWatch.{CabinetWatch}
 use Rattle.judge_session.specs.Standing.{WatchStands}
@@ -13,7 +14,8 @@ loop-cabinet-preserved c =
     let items : c.push.new.self.items ≡ c.loop-cabinet.cabinets.items ++ c.new-watch.result ∷ [] = (c.in-Ok-push.ensures {u = tt}).items in
     let below : n < length c.args.scenario.cabinets.items = omega arith in
     let own : WatchStands c.new-watch.result s c.args.terms.joined (n + 1) [] =
-    c.new-watch.ensures s (n + 1) (opening-is c.args.scenario.cabinets.items n c.cabinet-item.result below ? ∙ sym c.opening_tables.ensures) in
+    c.new-watch.ensures s (n + 1) (opening-is c.args.scenario.cabinets.items n c.cabinet-item.result below
+    (c.cabinet-item.is ∙ ap (λ (xs : List Cabinet). get_or xs n c.cabinet-item.result) c.deref-cabinet-items.ensures.value) ∙ sym c.opening_tables.ensures) in
     record {
       many = ap (λ (xs : List CabinetWatch). length xs) items ∙ length-append c.loop-cabinet.cabinets.items (c.new-watch.result ∷ [])
           ∙ ap (λ (m : ℕ). m + 1) c.loop-cabinet.invariant.many;
@@ -24,7 +26,7 @@ loop-cabinet-preserved c =
 pub returns : goal.returns
 returns c =
     let all : c.loop-cabinet.cabinet-index ≡ length c.args.scenario.cabinets.items = omega arith in
-    let same : length (map cabinet_content c.args.scenario.cabinets.items) ≡ length c.args.scenario.cabinets.items = length-map cabinet_content c.args.scenario.cabinets.items in
+    let same : length (map cabinet_content c.args.scenario.cabinets.items) ≡ length c.args.scenario.cabinets.items = length-map _ _ in
     record {
       scenario = refl;
       by = refl;
