@@ -17,6 +17,7 @@ from .judging import columns
 from .operation import operation
 from .pdus import text, whole
 from .reads import Front, Read, by_stage, constant, kept
+from .timebase import timebase
 from .vehicles import vehicles
 
 FLASH, COORD, SEEK = 6, 4, 3
@@ -170,7 +171,8 @@ def preempts() -> dict[Arcs, Read]:
     return made
 
 
-OBJECTS: dict[Arcs, Read] = {**scalars(), **modules(), **calls(), **preempts(), **operation(), **vehicles()}
+OBJECTS: dict[Arcs, Read] = {**scalars(), **modules(), **calls(), **preempts(), **operation(), **vehicles(),
+                            **timebase()}  # fmt: skip
 ORDER = sorted(OBJECTS)
 WRITABLE: set[Arcs] = {GLOBAL_TIME, TRANSACTION}
 WRITABLE |= {column + (group,) for column in (VEH_CALL, PED_CALL) for group in (1, 2)}
