@@ -145,7 +145,8 @@ ACTIONS: dict[Arcs, Named] = {
     ASC + (5, 2): most("maxTimebaseAscActions", "actions", 51),
     ACTION + (1,): index("timebaseAscActionNumber", 51),
     ACTION + (2,): asc(
-        "timebaseAscPattern", BYTE, "The pattern that the action commands: 1 to 48, then 0, 254 (free) and 255 (flash)."
+        "timebaseAscPattern", BYTE,
+        "The pattern that the action commands: 1 to 48, then 0, 254 (free) and 255 (flash).",
     ),
     ACTION + (3,): asc("timebaseAscAuxillaryFunction", BYTE, "0: there is none."),
     ACTION + (4,): asc("timebaseAscSpecialFunction", BYTE, "0: there is none."),
@@ -251,8 +252,9 @@ RINGS: dict[Arcs, Named] = {
         "the bits for gap out, max out and force-off are never set, and 2, maximum, doesn't occur",
     ),
 }  # fmt: skip
-NAMED: dict[Arcs, Named] = {**system(), **GLOBALS, **TIMES, **PHASES, **DETECTORS, **UNIT, **COORD, **ACTIONS, **PREEMPTS,
-                           **RINGS}  # fmt: skip
+NAMED: dict[Arcs, Named] = {
+    **system(), **GLOBALS, **TIMES, **PHASES, **DETECTORS, **UNIT, **COORD, **ACTIONS, **PREEMPTS, **RINGS
+}  # fmt: skip
 """The objects by their arcs without the last, in the order of a walk."""
 ROWS: dict[Arcs, Row] = {
     GLOBAL + (1, 3, 1): Row("module", "moduleNumber", "A module: here one, the software."),
@@ -272,7 +274,7 @@ ROWS: dict[Arcs, Row] = {
 """The tables of which the front end has all columns that there are, by the arcs of their rows."""
 GROUPS: dict[Arcs, str] = {
     GLOBAL: "global", GLOBAL + (1,): "globalConfiguration", GLOBAL + (2,): "globalDBManagement",
-    GLOBAL + (3,): "globalTimeManagement", GLOBAL + (3, 3): "timebase", ASC + (5,): "timebaseAsc", ASC + (2,): "detector", ASC + (2, 5): "volumeOccupancyReport",
-    ASC + (3,): "unit",
+    GLOBAL + (3,): "globalTimeManagement", GLOBAL + (3, 3): "timebase", ASC + (5,): "timebaseAsc",
+    ASC + (2,): "detector", ASC + (2, 5): "volumeOccupancyReport", ASC + (3,): "unit",
 }  # fmt: skip
 """The nodes above them that ARTERIAL-PROFILE-MIB doesn't have, each below one that is known."""
