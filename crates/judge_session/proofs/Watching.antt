@@ -31,7 +31,7 @@ use Rattle.judge_session.proofs.Versions.{version-now, version-kept}
 abbrev pub shown : ℕ → List Colour → List Ped → Mode → ℕ → ℕ × Indications
 shown tick veh ped mode version = (tick, record { colours = veh; signals = ped; mode = mode; version = version })
 
--- the tables that are told are told
+-- the tables by some lines are those of their versions
 pub are-told : (s : ScenarioContent) (cab : ℕ) (before : List Line) → AreTold s cab before (tables_before s before cab)
 are-told s cab before version t h = ap (λ (o : Option Tables). unwrap_or o (opening_at s cab)) h
 
@@ -139,7 +139,7 @@ frame-known w new s joined cab tick veh ped mode counter target before so v k l 
           })));
     }
 
--- what the line shows, by the tables that are told
+-- what the line shows, by the tables of some lines
 pub frame-shows : (w : CabinetWatch) (s : ScenarioContent) (joined : Bool) (cab tick : ℕ) (veh : List Colour) (ped : List Ped) (mode : Mode)
     (before : List Line) → WatchStands w s joined cab before → w.known ≡ true
     → AllFollow w.judge joined (tables_before s before cab) (told cab before)

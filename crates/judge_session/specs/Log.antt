@@ -67,7 +67,7 @@ pub record IsRead (bytes : List ℕ) (line : Line) : Type 0 where
   pub is : IsLine line
   pub text : ended bytes ≡ line_text line
 
--- why the bytes of a line can't follow these lines: they are no line of a trace, or a line that can't follow
+-- why the bytes of a line can't follow these lines: they aren't a line of a trace, or are a line that can't follow
 abbrev pub IsFault : ScenarioContent → List Line → List ℕ → LineFault → Type 0
 IsFault s before bytes NotALine = (line : Line) → IsRead bytes line → ⊥
 IsFault s before bytes fault = (line : Line) × IsRead bytes line × (fault_of s before line ≡ Some fault)

@@ -52,7 +52,7 @@ pub record JudgeStands (judge : LogJudge) (s : ScenarioContent) (terms : Terms) 
   pub last : judge.last ≡ last_tick before
   pub breaches : judge.breaches ≡ length (log_found s terms before)
 
--- a line can follow; the judge stands for one line more, and what is reported of the line was appended to a text
+-- a line can follow; the judge keeps what looking back over one line more gives, and the report of the line was appended to a text
 pub record FollowsOn (new : LogJudge) (s : ScenarioContent) (terms : Terms) (before : List Line) (line : Line) (text_before text : List ℕ) : Type 0 where
   pub follows : fault_of s before line ≡ None
   pub report : text ≡ text_before ++ line_report s terms before line
