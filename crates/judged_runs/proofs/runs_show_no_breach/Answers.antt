@@ -1,0 +1,5 @@
+use Rattle.judged_runs.proofs.Judging.{faultless}
+use Rattle.judged_runs.proofs.runs_show_no_breach.Goals as goal
+
+pub returns : goal.returns
+returns c = λ s run journals are. faultless s journals are (c.any_order_is_safe.ensures s run.can_open journals are)
