@@ -61,21 +61,21 @@ some-told x rest e = let n : length (x ∷ rest) ≡ 0 = ap length e in omega (a
 
 pub no-ids : (cab : ℕ) (lines : List Line) → told_in cab lines ≡ [] → ids_told cab lines ≡ []
 no-ids cab [] e = refl
-no-ids cab (L c id (Ok version) ∷ lines) e = split (c == cab) e
+no-ids cab (L c id (Ok version) ∷ lines) e = split (c == cab) (no-ids cab lines) e
   where
-    split : (b : Bool) → (if b then Loads version ∷ told_in cab lines else told_in cab lines) ≡ []
+    split : (b : Bool) → (told_in cab lines ≡ [] → ids_told cab lines ≡ []) → (if b then Loads version ∷ told_in cab lines else told_in cab lines) ≡ []
         → (if b then id ∷ ids_told cab lines else ids_told cab lines) ≡ []
-    split true e = absurd (some-told (Loads version) (told_in cab lines) e)
-    split false e = no-ids cab lines e
+    split true less e = absurd (some-told (Loads version) (told_in cab lines) e)
+    split false less e = less e
 no-ids cab (L c id (Err broken) ∷ lines) e = no-ids cab lines e
-no-ids cab (F c tick veh ped mode counter target version ∷ lines) e = split (c == cab) e
+no-ids cab (F c tick veh ped mode counter target version ∷ lines) e = split (c == cab) (no-ids cab lines) e
   where
     said : CabinetTold
     said = Shows tick (record { colours = veh; signals = ped; mode = mode; version = version })
 
-    split : (b : Bool) → (if b then said ∷ told_in cab lines else told_in cab lines) ≡ [] → ids_told cab lines ≡ []
-    split true e = absurd (some-told said (told_in cab lines) e)
-    split false e = no-ids cab lines e
+    split : (b : Bool) → (told_in cab lines ≡ [] → ids_told cab lines ≡ []) → (if b then said ∷ told_in cab lines else told_in cab lines) ≡ [] → ids_told cab lines ≡ []
+    split true less e = absurd (some-told said (told_in cab lines) e)
+    split false less e = less e
 no-ids cab (S json ∷ lines) e = no-ids cab lines e
 no-ids cab (R round ∷ lines) e = no-ids cab lines e
 no-ids cab (M note ∷ lines) e = no-ids cab lines e
@@ -85,20 +85,20 @@ no-ids cab (Z rounds ∷ lines) e = no-ids cab lines e
 
 pub nothing-told : (cab : ℕ) (lines : List Line) → told_in cab lines ≡ [] → told cab lines ≡ []
 nothing-told cab [] e = refl
-nothing-told cab (F c tick veh ped mode counter target version ∷ lines) e = split (c == cab) e
+nothing-told cab (F c tick veh ped mode counter target version ∷ lines) e = split (c == cab) (nothing-told cab lines) e
   where
     shown : Indications
     shown = record { colours = veh; signals = ped; mode = mode; version = version }
 
-    split : (b : Bool) → (if b then Shows tick shown ∷ told_in cab lines else told_in cab lines) ≡ []
+    split : (b : Bool) → (told_in cab lines ≡ [] → told cab lines ≡ []) → (if b then Shows tick shown ∷ told_in cab lines else told_in cab lines) ≡ []
         → (if b then (tick, shown) ∷ told cab lines else told cab lines) ≡ []
-    split true e = absurd (some-told (Shows tick shown) (told_in cab lines) e)
-    split false e = nothing-told cab lines e
-nothing-told cab (L c id (Ok version) ∷ lines) e = split (c == cab) e
+    split true less e = absurd (some-told (Shows tick shown) (told_in cab lines) e)
+    split false less e = less e
+nothing-told cab (L c id (Ok version) ∷ lines) e = split (c == cab) (nothing-told cab lines) e
   where
-    split : (b : Bool) → (if b then Loads version ∷ told_in cab lines else told_in cab lines) ≡ [] → told cab lines ≡ []
-    split true e = absurd (some-told (Loads version) (told_in cab lines) e)
-    split false e = nothing-told cab lines e
+    split : (b : Bool) → (told_in cab lines ≡ [] → told cab lines ≡ []) → (if b then Loads version ∷ told_in cab lines else told_in cab lines) ≡ [] → told cab lines ≡ []
+    split true less e = absurd (some-told (Loads version) (told_in cab lines) e)
+    split false less e = less e
 nothing-told cab (L c id (Err broken) ∷ lines) e = nothing-told cab lines e
 nothing-told cab (S json ∷ lines) e = nothing-told cab lines e
 nothing-told cab (R round ∷ lines) e = nothing-told cab lines e

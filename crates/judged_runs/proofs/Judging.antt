@@ -12,7 +12,7 @@ use Rattle.safety_laws.specs.Safe.{Indications, dark, told, shown_at, Intersecti
 use Rattle.safety_laws.specs.Whole.{Whole}
 use Rattle.safety_laws.specs.Written.{tables_of}
 use Rattle.safety_laws.specs.TraceText.{AreLines}
-use Rattle.safety_laws.proofs.CabinetTold.{lines-show}
+use Rattle.safety_laws.proofs.Shown.{lines-show}
 use Rattle.scenario_data.specs.Content.{CabinetContent, ScenarioContent}
 use Rattle.scenario_data.specs.Opening.{opening_tables}
 use Rattle.cabinet_history.specs.Coming.{coming, history_of}

@@ -55,7 +55,7 @@ module _ (load : ℕ → ℕ → Option (List (Cell × Content))) (opening : ℕ
       → (back : List Line) → P (told cab back) → P (told cab (known_back load opening back))
   known-fewer P less [] h = h
   known-fewer P less (F c tick veh ped mode counter target version ∷ back) h =
-      split (c == cab) refl (is_known load opening c back) refl h
+      split (known-fewer P less back) (c == cab) refl (is_known load opening c back) refl h
     where
       shown : ℕ × Indications
       shown = (tick, record { colours = veh; signals = ped; mode = mode; version = version })
@@ -63,15 +63,15 @@ module _ (load : ℕ → ℕ → Option (List (Cell × Content))) (opening : ℕ
       line : Line
       line = F c tick veh ped mode counter target version
 
-      split : (b : Bool) → (c == cab) ≡ b → (k : Bool) → is_known load opening c back ≡ k → P (if b then shown ∷ told cab back else told cab back)
+      split : (P (told cab back) → P (told cab (known_back load opening back))) → (b : Bool) → (c == cab) ≡ b → (k : Bool) → is_known load opening c back ≡ k → P (if b then shown ∷ told cab back else told cab back)
           → P (told cab (if k then line ∷ known_back load opening back else known_back load opening back))
-      split true same true is h =
+      split fewer true same true is h =
           let all : told cab (known_back load opening back) ≡ told cab back
           = known-all back (ap (λ (n : ℕ). is_known load opening n back) (sym ((Decides-eqb c cab).0 same)) ∙ is) in
           rw same (subst (λ (x : List (ℕ × Indications)). P (shown ∷ x)) (sym all) h)
-      split true same false is h = known-fewer P less back (less shown (told cab back) h)
-      split false same true is h = rw same (known-fewer P less back h)
-      split false same false is h = known-fewer P less back h
+      split fewer true same false is h = fewer (less shown (told cab back) h)
+      split fewer false same true is h = rw same (fewer h)
+      split fewer false same false is h = fewer h
   known-fewer P less (L c id result ∷ back) h = known-fewer P less back h
   known-fewer P less (S json ∷ back) h = known-fewer P less back h
   known-fewer P less (R round ∷ back) h = known-fewer P less back h

@@ -128,7 +128,8 @@ module _ (load : ℕ → ℕ → Option (List (Cell × Content))) (opening : ℕ
   each-known : (back newer : List Line) → newer ++ back ≡ whole → FramesWhole cab back → Each At (told cab (known_back load opening back))
   each-known [] newer e frames = tt
   each-known (F c tick veh ped mode counter target version ∷ back) newer e frames =
-      split (c == cab) refl (is_known load opening c back) refl
+      split (each-known back (newer ++ F c tick veh ped mode counter target version ∷ []) (one-more (F c tick veh ped mode counter target version) back newer e) frames.1)
+      (c == cab) refl (is_known load opening c back) refl
     where
       shown : ℕ × Indications
       shown = (tick, record { colours = veh; signals = ped; mode = mode; version = version })
@@ -136,20 +137,17 @@ module _ (load : ℕ → ℕ → Option (List (Cell × Content))) (opening : ℕ
       line : Line
       line = F c tick veh ped mode counter target version
 
-      older : Each At (told cab (known_back load opening back))
-      older = each-known back (newer ++ line ∷ []) (one-more line back newer e) frames.1
-
-      split : (b : Bool) → (c == cab) ≡ b → (k : Bool) → is_known load opening c back ≡ k
+      split : Each At (told cab (known_back load opening back)) → (b : Bool) → (c == cab) ≡ b → (k : Bool) → is_known load opening c back ≡ k
           → Each At (told cab (if k then line ∷ known_back load opening back else known_back load opening back))
-      split true same true is =
+      split older true same true is =
           let own : c ≡ cab = (Decides-eqb c cab).0 same in
           let now : At (downloads cab back)
           = agrees (load cab) (opening cab) cab whole tables m back (newer ++ line ∷ []) (one-more line back newer e)
           (ap (λ (n : ℕ). is_known load opening n back) (sym own) ∙ is) in
           rw same (subst At (sym (frames.0 own)) now, older)
-      split true same false is = older
-      split false same true is = rw same older
-      split false same false is = older
+      split older true same false is = older
+      split older false same true is = rw same older
+      split older false same false is = older
   each-known (L c id result ∷ back) newer e frames = each-known back (newer ++ L c id result ∷ []) (one-more (L c id result) back newer e) frames
   each-known (S json ∷ back) newer e frames = each-known back (newer ++ S json ∷ []) (one-more (S json) back newer e) frames
   each-known (R round ∷ back) newer e frames = each-known back (newer ++ R round ∷ []) (one-more (R round) back newer e) frames

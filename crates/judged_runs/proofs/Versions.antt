@@ -1,7 +1,6 @@
 -- The tables of each version that the lines of a log tell are made by the loads whose numbers they tell.
 use Rattle.std.proofs.Common.{◌≡◌, ◌≢◌, ◌≤◌, ◌∙◌, ◌+◌, ◌==◌, ◌&&◌, if◌then◌else◌, ℕ, zero, suc, Bool, true, false, List, [], ◌∷◌, ◌++◌, length, drop, map, Option, Some, None, Ok, Err, refl, sym, ap, ap₂, arith, inl, inr, reverse, unwrap_or}
 use Rattle.std.specs.List.{AllByRecursion}
-use Rattle.std.proofs.lemmas.Option.{same_Some}
 use Rattle.std.proofs.lemmas.Bool.Decides.{eqb_tells}
 use Rattle.sig_tables.specs.declared.tables.Tables.{Tables}
 use Rattle.sig_tables.specs.declared.cells.Cell.{Cell}
@@ -62,26 +61,27 @@ module _ (load : ℕ → Option (List (Cell × Content))) (opening : Tables) (ca
   version-made [] zero zero e = refl
   version-made [] zero (suc later) e = absurd (let bad : zero + suc later ≡ 0 = e in omega (arith, bad))
   version-made [] (suc version) later e = absurd (let bad : suc version + later ≡ 0 = e in omega (arith, bad))
-  version-made (L c id (Ok made) ∷ back) version later e = split (c == cab) (version == downloads cab back + 1) refl later e
+  version-made (L c id (Ok made) ∷ back) version later e = split (version-made back version) (c == cab) (version == downloads cab back + 1) refl later e
     where
       kept : List ℕ
       kept = ids_told cab back
 
-      split : (b n : Bool) → (version == downloads cab back + 1) ≡ n → (later : ℕ) → version + later ≡ length (if b then id ∷ kept else kept)
+      split : ((rest : ℕ) → version + rest ≡ length kept → version_told load opening cab back version ≡ made_by load opening (drop rest kept))
+          → (b n : Bool) → (version == downloads cab back + 1) ≡ n → (later : ℕ) → version + later ≡ length (if b then id ∷ kept else kept)
           → (if b && n then loaded (load id) (tables_told load opening cab back) else version_told load opening cab back version)
           ≡ made_by load opening (drop later (if b then id ∷ kept else kept))
-      split true true same zero sum = ap (loaded (load id)) (told-made back)
-      split true true same (suc later) sum = elim (eqb_tells version (downloads cab back + 1)) [
+      split before true true same zero sum = ap (loaded (load id)) (told-made back)
+      split before true true same (suc later) sum = elim (eqb_tells version (downloads cab back + 1)) [
         | inl (is, equal) ↦ absurd (let n : downloads cab back ≡ length kept = count-told cab back in omega (arith, equal, n, sum))
         | inr (is, unequal) ↦ cc
       ]
-      split true false same zero sum = elim (eqb_tells version (downloads cab back + 1)) [
+      split before true false same zero sum = elim (eqb_tells version (downloads cab back + 1)) [
         | inl (is, equal) ↦ cc
         | inr (is, unequal) ↦ absurd (unequal (let n : downloads cab back ≡ length kept = count-told cab back in omega (arith, n, sum)))
       ]
-      split true false same (suc later) sum = version-made back version later (omega (arith, sum))
-      split false true same later sum = version-made back version later sum
-      split false false same later sum = version-made back version later sum
+      split before true false same (suc later) sum = before later (omega (arith, sum))
+      split before false true same later sum = before later sum
+      split before false false same later sum = before later sum
   version-made (L c id (Err broken) ∷ back) version later e = version-made back version later e
   version-made (F c tick veh ped mode counter target made ∷ back) version later e = version-made back version later e
   version-made (S json ∷ back) version later e = version-made back version later e
@@ -103,12 +103,12 @@ module _ (load : ℕ → Option (List (Cell × Content))) (opening : Tables) (ca
     where
       some-none : (x : Tables) → None ≡ Some x → ⊥
       some-none x e = cc
-  known-step (Some own) (Some x) cells t u is same e = sym (same_Some e) ∙ ap₂ with_cells (same x refl) is
+  known-step (Some own) (Some x) cells t u is same e = ap (λ (o : Option Tables). unwrap_or o opening) (sym e) ∙ ap₂ with_cells (same x refl) is
 
   -- tables that are known are those that the downloads made
   pub known-made : (ds : List (ℕ × List (Cell × Content))) (u : Tables) → AllByRecursion (λ d. IsLoadIfAny (load d.0) d.1) ds
       → made_by load opening (map (λ d. d.0) ds) ≡ Some u → u ≡ with_downloads opening (map (λ d. d.1) ds)
-  known-made [] u own e = sym (same_Some e)
+  known-made [] u own e = ap (λ (o : Option Tables). unwrap_or o opening) (sym e)
   known-made (d ∷ ds) u own e =
       known-step (load d.0) (made_by load opening (map (λ d. d.0) ds)) d.1 (with_downloads opening (map (λ d. d.1) ds)) u own.0
       (λ x f. known-made ds x own.1 f) e
