@@ -1,5 +1,5 @@
 -- The lines of what a cabinet's items bring tell the numbers of the downloads that they put in force.
-use Rattle.std.proofs.Common.{◌≡◌, ◌∙◌, ◌==◌, if◌then◌else◌, ℕ, Bool, true, List, [], ◌∷◌, ◌++◌, map, reverse, Option, Some, None, Result, Ok, Err, refl, sym, ap, append-nil, append_assoc}
+use Rattle.std.proofs.Common.{◌≡◌, ◌∙◌, ◌==◌, ℕ, Bool, true, List, [], ◌∷◌, ◌++◌, map, reverse, Option, Some, None, Result, Ok, Err, refl, sym, ap, append-nil, append_assoc}
 use Rattle.std.proofs.lemmas.Bool.{eq-eqb}
 use Rattle.std.proofs.lemmas.List.{reverse-append, map-append}
 use Rattle.sig_types.specs.declared.frame.Frame.{Frame}
@@ -24,7 +24,7 @@ use Rattle.cabinet_history.specs.Coming.{Coming, past_of, in_force, is_flashing,
 use Rattle.cabinet_history.specs.CabinetAnswers.{load_end, reply_to, in_frame, item_written, verify_end, finish_end, wish_end, ask_end}
 use Rattle.cabinet_history.specs.Downloads.{accepted_by}
 use Rattle.run_definition.specs.Lines.{frame_lines, load_lines, item_lines, acts_lines}
-use Rattle.judged_runs.specs.Loads.{brought_by, brought, brought_to}
+use Rattle.judged_runs.specs.Loads.{brought_by, brought}
 use Rattle.judged_runs.proofs.Ids.{ids_told, ids-append}
 
 -- the number of a download

@@ -1,5 +1,5 @@
 -- A judge finds nothing in the lines of a run.
-use Rattle.std.proofs.Common.{◌≡◌, ◌≢◌, ◌≤◌, ◌∙◌, ◌+◌, ◌==◌, ◌⊎◌, if◌then◌else◌, ℕ, true, false, List, [], ◌∷◌, ◌++◌, length, drop, map, Option, Some, is_some, refl, sym, ap, subst, arith, inl, inr, reverse}
+use Rattle.std.proofs.Common.{◌≡◌, ◌≤◌, ◌∙◌, ◌+◌, ◌==◌, if◌then◌else◌, ℕ, true, false, List, [], ◌∷◌, length, drop, map, Option, Some, is_some, refl, sym, ap, subst, arith, inl, inr, reverse}
 use Rattle.std.specs.List.{AllByRecursion}
 use Rattle.std.proofs.lemmas.Bool.{ne_eqb, eq-eqb}
 use Rattle.std.proofs.lemmas.List.{reverse-reverse, length-map}
@@ -9,7 +9,6 @@ use Rattle.sig_tables.specs.Cells.{Content}
 use Rattle.sig_tables.specs.Standard.{std8}
 use Rattle.trace_text.specs.declared.lines.Line.{Line}
 use Rattle.safety_laws.specs.Safe.{Indications, dark, told, shown_at, Intersection, Safe, intersection_of}
-use Rattle.safety_laws.specs.Whole.{Whole}
 use Rattle.safety_laws.specs.Written.{tables_of}
 use Rattle.safety_laws.specs.TraceText.{AreLines}
 use Rattle.safety_laws.proofs.Shown.{lines-show}
@@ -28,16 +27,16 @@ use Rattle.run_definition.specs.Orders.{AreJournals}
 use Rattle.run_definition.specs.Safe.{Kept, AllKept}
 use Rattle.run_definition.proofs.Streets.{Ended, drift_in, run-ended}
 use Rattle.judge_laws.specs.Breaches.{exact, breaches, breaches_back, Falls, Rising}
-use Rattle.judge_laws.specs.TablesTold.{tables_told, tables_by}
+use Rattle.judge_laws.specs.TablesTold.{tables_by}
 use Rattle.judge_laws.proofs.Parts.{AllFine}
 use Rattle.judge_laws.proofs.Judged.{told-reverse, none-all, all-none, judged}
 use Rattle.judge_laws.proofs.RunsRise.{runs-rise}
 use Rattle.trace_laws.specs.Laws.{TellsOfRun}
-use Rattle.judged_runs.specs.Loads.{load_cells, opening_from, opening_in, brought, brought_to, IsLoadIfAny, LoadsAreOwn, AllAreLoads}
+use Rattle.judged_runs.specs.Loads.{load_cells, opening_from, opening_in, brought_to, IsLoadIfAny, LoadsAreOwn, AllAreLoads}
 use Rattle.judged_runs.specs.Known.{is_known, known_back, known_lines}
 use Rattle.judged_runs.specs.NoBreach.{IsInOrder, ShowsNone, ShowsNoneAtAll, IsFaultless, TraceIsFaultless}
 use Rattle.judged_runs.proofs.Ids.{ids_told, ids-reverse, no-ids, nothing-told}
-use Rattle.judged_runs.proofs.Brought.{ids-brought, cells-brought, ids_to}
+use Rattle.judged_runs.proofs.Brought.{ids-brought, cells-brought}
 use Rattle.judged_runs.proofs.Rounds.{come-late, run-ids}
 use Rattle.judged_runs.proofs.Others.{is-cabinet, others-none, none-whole}
 use Rattle.judged_runs.proofs.Versions.{made_by, told-made, all-made}

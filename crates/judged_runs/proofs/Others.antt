@@ -8,7 +8,7 @@ use Rattle.sig_types.specs.declared.frame.Mode.{Mode}
 use Rattle.trace_text.specs.declared.lines.Line.{Line}
 use Rattle.trace_text.specs.declared.lines.Line.TheVariants.{F, L, Z}
 use Rattle.safety_laws.specs.CabinetTold.{CabinetTold, Shows, Loads, told_in}
-use Rattle.safety_laws.specs.Whole.{Whole, downloads}
+use Rattle.safety_laws.specs.Whole.{Whole}
 use Rattle.scenario_data.specs.Content.{CabinetContent, ScenarioContent}
 use Rattle.runnable.specs.Cabinets.{IsNumbered, IsCabinet}
 use Rattle.run_definition.specs.CabinetState.{CabinetState, opened_cabinet_states, round_acts, each_cabinet_state, HasComeTo}

@@ -1,12 +1,12 @@
 -- The lines of a run tell the numbers of the downloads that each of its cabinets put in force.
-use Rattle.std.proofs.Common.{◌≡◌, ◌≢◌, ◌+◌, ◌<◌, ◌≤◌, ◌∙◌, ◌==◌, inl, inr, ℕ, List, [], ◌∷◌, ◌++◌, refl, sym, ap, subst, arith, append_assoc, append-nil}
+use Rattle.std.proofs.Common.{◌≡◌, ◌≢◌, ◌+◌, ◌<◌, ◌≤◌, ◌∙◌, inl, inr, ℕ, List, [], ◌∷◌, ◌++◌, refl, sym, ap, subst, arith, append_assoc, append-nil}
 use Rattle.trace_text.specs.declared.lines.Line.{Line}
 use Rattle.trace_text.specs.declared.lines.Line.TheVariants.{Z}
 use Rattle.safety_laws.specs.CabinetTold.{told_in}
 use Rattle.scenario_data.specs.Content.{CabinetContent, ScenarioContent}
 use Rattle.cabinet_history.specs.Journals.{Act}
 use Rattle.master_rounds.specs.Rounds.{noted}
-use Rattle.run_definition.specs.CabinetState.{CabinetState, opened_cabinet_state, opened_cabinet_states, round_acts, next_cabinet_state, each_cabinet_state, cabinet_states_after, HasComeTo}
+use Rattle.run_definition.specs.CabinetState.{CabinetState, opened_cabinet_states, round_acts, next_cabinet_state, each_cabinet_state, cabinet_states_after, HasComeTo}
 use Rattle.run_definition.specs.Lines.{cabinet_lines, acts_lines, each_lines, notes_lines, head_lines, round_lines, rounds_lines, opening_lines, front_lines, run_lines}
 use Rattle.run_definition.proofs.Telling.{other-acts, notes-tell}
 use Rattle.judged_runs.proofs.Ids.{ids_told, ids-append, no-ids}
