@@ -3,6 +3,7 @@ pub mod Brought
 pub mod Rounds
 pub mod Others
 pub mod Versions
-pub mod Knowing
 pub mod Shown
 pub mod Judging
+pub mod Following
+pub mod Faultless

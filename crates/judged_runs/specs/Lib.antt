@@ -1,3 +1,2 @@
 pub mod Loads
-pub mod Known
-pub mod NoBreach
+pub mod Faultless

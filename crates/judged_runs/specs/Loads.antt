@@ -1,41 +1,18 @@
--- The loads of a scenario, as anyone knows them who has the scenario and not the run; and the downloads that the cabinets of a run
--- accepted.
-use Rattle.std.specs.Prelude.{ℕ, zero, suc, ◌+◌, ◌==◌, ◌≡◌, if◌then◌else◌, List, [], ◌∷◌, ◌++◌, Option, Some, None}
-use Rattle.std.specs.List.{slice_get, AllByRecursion}
+-- The downloads that the cabinets of a run put in force, and the loads of the scenario with their numbers.
+use Rattle.std.specs.Prelude.{ℕ, ◌≡◌, List, [], ◌∷◌, ◌++◌, Option, Some, None}
+use Rattle.std.specs.List.{AllByRecursion}
 use Rattle.sig_types.specs.declared.notes.StageAnswer.{StageAnswer}
 use Rattle.sig_types.specs.declared.notes.StageAnswer.TheVariants.{Accepted}
-use Rattle.sig_tables.specs.declared.tables.Tables.{Tables}
 use Rattle.sig_tables.specs.declared.cells.Cell.{Cell}
 use Rattle.sig_tables.specs.Cells.{Content}
-use Rattle.sig_tables.specs.Standard.{std8}
-use Rattle.scenario_data.specs.Content.{CabinetContent, LoadContent, ScenarioContent}
-use Rattle.scenario_data.specs.Opening.{opening_tables}
-use Rattle.master_load.specs.Downloads.{loads_of}
+use Rattle.scenario_data.specs.Content.{ScenarioContent}
 use Rattle.stage_txn.specs.Calls.{Call, Finish, Answered, Deed, deeds}
 use Rattle.stage_txn.specs.Answers.{answered}
 use Rattle.cabinet_history.specs.CabinetHistory.{CabinetHistory}
 use Rattle.cabinet_history.specs.Coming.{coming}
 use Rattle.cabinet_history.specs.Downloads.{content_by}
+use Rattle.judge_session.specs.Told.{load_told}
 use Rattle.run_definition.specs.CabinetState.{CabinetState, HasComeTo, opened_cabinet_states, cabinet_states_after}
-
--- the cells of a load, if there is one
-abbrev pub cells_if : Option LoadContent → Option (List (Cell × Content))
-cells_if None = None
-cells_if (Some l) = Some l.cells
-
--- the cells of the load with this number, counted from 1, among the loads of a cabinet
-abbrev pub load_cells : List LoadContent → ℕ → ℕ → Option (List (Cell × Content))
-load_cells loads cab zero = None
-load_cells loads cab (suc n) = cells_if (slice_get (loads_of cab loads) n)
-
--- the tables that a cabinet opens with, among the cabinets from a first number on; the standard tables where there is no such cabinet
-abbrev pub opening_from : ℕ → List CabinetContent → ℕ → Tables
-opening_from first [] cab = std8
-opening_from first (c ∷ cabinets) cab = if cab == first then opening_tables c else opening_from (first + 1) cabinets cab
-
--- the same among the cabinets of a scenario
-abbrev pub opening_in : ScenarioContent → ℕ → Tables
-opening_in s cab = opening_from 1 s.cabinets cab
 
 -- the download that a call put in force, where its finish was accepted: its number and its cells
 abbrev pub brought_by : Call → StageAnswer → List Deed → List (ℕ × List (Cell × Content))
@@ -59,7 +36,7 @@ IsLoadIfAny (Some own) cells = own ≡ cells
 -- a fact of each download that a run with these journals put in force, by the cells of the load with its number
 abbrev pub EachBrought : (Option (List (Cell × Content)) → List (Cell × Content) → Type 0) → ScenarioContent → List (List (List ℕ)) → Type 0
 EachBrought Is s journals = (cab : ℕ) (end : CabinetState) → HasComeTo cab end 1 (cabinet_states_after s (opened_cabinet_states s s.cabinets) journals)
-    → AllByRecursion (λ d. Is (load_cells s.loads cab d.0) d.1) (brought_to end.cabinet_history)
+    → AllByRecursion (λ d. Is (load_told s cab d.0) d.1) (brought_to end.cabinet_history)
 
 -- no download came under the number of a load with other cells than that load's
 abbrev pub LoadsAreOwn : ScenarioContent → List (List (List ℕ)) → Type 0

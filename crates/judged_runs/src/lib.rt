@@ -9,7 +9,7 @@ ghost use Rattle.runnable.specs.Runnable.{Runnable};
 ghost use Rattle.run_definition.specs.Lines.{run_lines};
 ghost use Rattle.run_definition.specs.Orders.{AreJournals};
 ghost use Rattle.trace_laws.specs.Traces.{IsTrace};
-ghost use Rattle.judged_runs.specs.NoBreach.{IsFaultless, TraceIsFaultless};
+ghost use Rattle.judged_runs.specs.Faultless.{IsFaultless, TraceIsFaultless};
 
 use run_definition::any_order_is_safe;
 use trace_laws::{lines_are_proper, traces_are_safe};

@@ -1,4 +1,4 @@
-use Rattle.judged_runs.proofs.Judging.{faultless}
+use Rattle.judged_runs.proofs.Faultless.{faultless}
 use Rattle.judged_runs.proofs.runs_show_no_breach.Goals as goal
 
 pub returns : goal.returns

@@ -1,4 +1,4 @@
-use Rattle.judged_runs.proofs.Judging.{trace-faultless}
+use Rattle.judged_runs.proofs.Faultless.{trace-faultless}
 use Rattle.judged_runs.proofs.traces_show_no_breach.Goals as goal
 
 pub returns : goal.returns
