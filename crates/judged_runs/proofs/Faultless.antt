@@ -1,13 +1,14 @@
 -- A judge finds nothing in the lines of a run.
-use Rattle.std.proofs.Common.{◌≡◌, ◌∙◌, if◌then◌else◌, ℕ, Bool, true, false, List, [], ◌∷◌, ◌++◌, refl, subst, inl, inr, reverse, append_assoc, append-nil}
+use Rattle.std.proofs.Common.{◌≡◌, ◌∙◌, if◌then◌else◌, ℕ, Bool, true, false, List, [], ◌∷◌, ◌++◌, refl, sym, ap, subst, inl, inr, map, reverse, append_assoc, append-nil}
 use Rattle.std.proofs.lemmas.List.{reverse-reverse}
+use Rattle.trace_text.specs.Line.{line_text}
 use Rattle.trace_text.specs.declared.lines.Line.{Line}
 use Rattle.trace_text.specs.declared.lines.Line.TheVariants.{S, F, R, M, J, L, A, Z}
 use Rattle.safety_laws.specs.Safe.{Indications, told}
 use Rattle.safety_laws.specs.TraceText.{AreLines}
 use Rattle.scenario_data.specs.Content.{ScenarioContent}
 use Rattle.runnable.specs.Runnable.{Runnable}
-use Rattle.run_definition.specs.Lines.{run_lines}
+use Rattle.run_definition.specs.Lines.{rest_lines, run_lines}
 use Rattle.run_definition.specs.Orders.{AreJournals}
 use Rattle.run_definition.specs.Safe.{AllKept}
 use Rattle.judge_laws.specs.Breaches.{exact, line_breaches}
@@ -15,12 +16,15 @@ use Rattle.judge_laws.proofs.Tests.{none-append}
 use Rattle.judge_laws.proofs.Parts.{AllFine}
 use Rattle.judge_laws.proofs.Findings.{fine-none}
 use Rattle.judge_session.specs.Told.{is_known, tables_before}
+use Rattle.judge_session.specs.Log.{Follow}
 use Rattle.judge_session.specs.Report.{line_found, log_found}
 use Rattle.trace_laws.specs.Laws.{TellsOfRun}
-use Rattle.judged_runs.specs.Faultless.{IsFaultless, TraceIsFaultless}
+use Rattle.judged_runs.specs.Faultless.{read_lines, IsAcceptedLog, IsFaultless, TraceIsFaultless}
 use Rattle.judged_runs.proofs.Others.{is-cabinet}
 use Rattle.judged_runs.proofs.Shown.{whole-back}
 use Rattle.judged_runs.proofs.Following.{IsInOrder, cabinet-has, follows, own-frame}
+use Rattle.judged_runs.proofs.NoScenario.{rest-none}
+use Rattle.judged_runs.proofs.Reading.{AreJudged, is_read, read, lines-judged, known-read, follow-read, found-read, bytes-read, lines-read, lines-reversed, read-same, filter-reverse}
 use Rattle.judged_runs.proofs.Judging.{rises, none-back, none-ids, whole-lines, known-fine, knows, shows-none}
 
 -- ---- what each line shows
@@ -79,14 +83,35 @@ in-order s journals are kept = record {
   ];
 }
 
-pub faultless : (s : ScenarioContent) (journals : List (List (List ℕ))) → AreJournals s journals → AllKept s journals (run_lines s journals)
+-- what is read of the lines with the newest first
+read-back : (s : ScenarioContent) (journals : List (List (List ℕ))) → read (reverse (run_lines s journals)) ≡ reverse (read_lines (rest_lines s journals))
+read-back s journals = filter-reverse is_read (run_lines s journals) ∙ ap reverse (read-same (rest_lines s journals) (rest-none s journals))
+
+accepted : (s : ScenarioContent) (journals : List (List (List ℕ))) → AreJournals s journals → AllKept s journals (run_lines s journals) → AreLines (run_lines s journals)
+    → IsAcceptedLog s journals (rest_lines s journals)
+accepted s journals are kept proper =
+    let back : List Line = reverse (run_lines s journals) in
+    let rest : List Line = rest_lines s journals in
+    let judged : AreJudged back = lines-judged back (lines-reversed (run_lines s journals) proper) in
+    let is : read back ≡ reverse (read_lines rest) = read-back s journals in
+    record {
+      log = λ bytes e. record {
+        texts = bytes-read bytes rest e ∙ ap (map line_text) (sym (reverse-reverse (read_lines rest)));
+        are = lines-reversed (read_lines rest) (lines-read rest proper.1);
+        follow = subst (Follow s) is (follow-read s back judged (follows s back (in-order s journals are kept)));
+      };
+      none = λ own. ap (log_found s exact) (sym is) ∙ found-read s exact back judged ∙ none-found s back (known-fine s journals are kept own) back [] refl;
+      known = λ all cab. ap (is_known s cab) (sym is) ∙ known-read s cab back judged ∙ knows s journals are kept all cab;
+    }
+
+pub faultless : (s : ScenarioContent) (journals : List (List (List ℕ))) → AreJournals s journals → AllKept s journals (run_lines s journals) → AreLines (run_lines s journals)
     → IsFaultless s journals (run_lines s journals)
-faultless s journals are kept = record {
+faultless s journals are kept proper = record {
+  rest = rest_lines s journals;
+  first = refl;
+  log = accepted s journals are kept proper;
   rising = rises s journals are;
   whole = whole-lines s journals are kept;
-  follow = follows s (reverse (run_lines s journals)) (in-order s journals are kept);
-  none = λ own. none-found s (reverse (run_lines s journals)) (known-fine s journals are kept own) (reverse (run_lines s journals)) [] refl;
-  known = knows s journals are kept;
   all = shows-none s journals are kept;
 }
 

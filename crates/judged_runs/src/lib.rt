@@ -23,6 +23,7 @@ pub fn runs_show_no_breach()
         → IsFaultless s journals (run_lines s journals) }
 {
     any_order_is_safe();
+    lines_are_proper();
 }
 
 /// The same holds for the lines of every text that a check accepts.
