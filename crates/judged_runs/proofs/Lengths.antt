@@ -1,5 +1,5 @@
 -- The lines of frames and of accepted loads are short.
-use Rattle.std.proofs.Common.{◌≡◌, ◌+◌, ◌*◌, ◌^◌, ◌<◌, ◌≤◌, ◌∙◌, ℕ, List, [], ◌∷◌, ◌++◌, length, map, codes, decimal, Ok, refl, arith, length-append}
+use Rattle.std.proofs.Common.{◌≡◌, ◌+◌, ◌*◌, ◌^◌, ◌<◌, ◌≤◌, ℕ, List, [], ◌∷◌, ◌++◌, length, map, codes, decimal, Ok, arith, length-append}
 use Rattle.std.specs.List.{AllByRecursion}
 use Rattle.std.proofs.lemmas.Fmt.{length-decimal-le}
 use Rattle.std.proofs.lemmas.List.{length-map}
@@ -67,13 +67,22 @@ unfolding line_text
 frame-short cab tick veh ped m counter target version is =
     let f = is.1 in
     let l = line-short (codes "F") (decimal cab ∷ decimal tick ∷ map colour_letter veh ∷ map signal_letter ped ∷ mode_text m ∷ decimal counter ∷ decimal target ∷ decimal version ∷ [])
-    (omega arith)
-    (number-short cab f.0,
-    (number-short tick f.1,
-    (letters-short colour_letter veh f.2,
-    (letters-short signal_letter ped f.3,
-    (mode-short m f.4,
-    (number-short counter f.5, (number-short target f.6, (number-short version f.7, tt)))))))) in
+    (omega arith) (
+      number-short cab f.0,
+      (
+        number-short tick f.1,
+        (
+          letters-short colour_letter veh f.2,
+          (
+            letters-short signal_letter ped f.3,
+            (
+              mode-short m f.4,
+              (number-short counter f.5, (number-short target f.6, (number-short version f.7, tt))),
+            ),
+          ),
+        ),
+      ),
+    ) in
     omega (arith, l)
 
 pub load-short : (cab id version : ℕ) → IsLine (L cab id (Ok version)) → length (line_text (L cab id (Ok version))) ≤ 4097

@@ -10,3 +10,4 @@ pub mod Lengths
 pub mod NoScenario
 pub mod Reading
 pub mod Faultless
+pub mod Disguised

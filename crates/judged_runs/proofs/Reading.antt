@@ -1,5 +1,5 @@
 -- A judge that reads only the short lines of a log finds in them what all lines show.
-use Rattle.std.proofs.Common.{◌≡◌, ◌<◌, not, ◌≤◌, ◌+◌, ◌∙◌, ◌==◌, ◌&&◌, nat_le, if◌then◌else◌, ℕ, Bool, true, false, List, [], ◌∷◌, ◌++◌, length, map, filter, get_or, drop, reverse, Option, Some, None, Ok, Err, is_some, unwrap_or, refl, sym, ap, ap₂, subst, arith, add-one, append-nil, length-append}
+use Rattle.std.proofs.Common.{◌≡◌, ◌<◌, not, ◌≤◌, ◌+◌, ◌∙◌, ◌==◌, ◌&&◌, nat_le, if◌then◌else◌, ℕ, Bool, true, false, List, [], ◌∷◌, ◌++◌, length, map, filter, get_or, drop, reverse, Option, Some, None, Ok, Err, is_some, unwrap_or, refl, sym, ap, ap₂, subst, arith, append-nil, length-append}
 use Rattle.std.specs.List.{AllByRecursion}
 use Rattle.std.proofs.lemmas.Bool.{le-leb, lt-leb, leb-true, leb-false}
 use Rattle.std.proofs.lemmas.List.{reverse-append}
@@ -20,10 +20,9 @@ use Rattle.judge_laws.specs.Breaches.{frame_breaches}
 use Rattle.judge_laws.specs.TablesTold.{loaded, tables_told, version_told}
 use Rattle.judge_laws.proofs.Tests.{funext}
 use Rattle.judge_session.specs.Told.{has_cabinet, load_told, opening_at, is_known, tables_before}
-use Rattle.judge_session.specs.declared.faults.LineFault.{LineFault}
-use Rattle.judge_session.specs.declared.faults.LineFault.TheVariants.{NoCabinet, NotLater, FrameVersion, LoadVersion}
-use Rattle.judge_session.specs.Log.{is_later, frame_fault, load_fault, fault_of, Follow, ended, short_lines}
-use Rattle.judge_session.specs.Report.{line_found, log_found}
+use Rattle.judge_session.specs.declared.faults.LineFault.TheVariants.{NoCabinet}
+use Rattle.judge_session.specs.Log.{frame_fault, load_fault, fault_of, Follow, ended, short_lines}
+use Rattle.judge_session.specs.Report.{log_found}
 use Rattle.judged_runs.specs.Faultless.{read_lines}
 use Rattle.judged_runs.proofs.NoScenario.{HasNoScenario}
 use Rattle.judged_runs.proofs.Lengths.{frame-short, load-short}

@@ -3,14 +3,22 @@
 //! bodies: their contracts are the laws.
 #![tactic(auto)]
 
-ghost use Rattle.std.specs.Prelude.{ℕ, List};
+ghost use Rattle.std.specs.Prelude.{◌≡◌, ℕ, List, [], ◌∷◌, reverse};
 ghost use Rattle.scenario_data.specs.Content.{ScenarioContent};
 ghost use Rattle.runnable.specs.Runnable.{Runnable};
-ghost use Rattle.run_definition.specs.Lines.{run_lines};
-ghost use Rattle.run_definition.specs.Orders.{AreJournals};
+ghost use Rattle.run_definition.specs.Lines.{rest_lines, run_lines};
+ghost use Rattle.run_definition.specs.Orders.{AreJournals, serial_journals};
 ghost use Rattle.trace_laws.specs.Traces.{IsTrace};
+ghost use Rattle.judge_laws.specs.declared.Clause.{Clause};
+ghost use Rattle.judge_laws.specs.Breaches.{exact, breach_at};
+ghost use Rattle.judge_session.specs.Report.{log_found};
+ghost use Rattle.run_definition.specs.Smallest.{smallest};
+ghost use Rattle.stage_txn.specs.Answers.{answered};
+ghost use Rattle.judged_runs.specs.Loads.{brought};
+ghost use Rattle.judged_runs.specs.Rows.{yellow, one_download, both_green, seventh, disguised};
 ghost use Rattle.judged_runs.specs.Faultless.{IsFaultless, TraceIsFaultless};
 
+use rule_book::standard_consistent;
 use run_definition::any_order_is_safe;
 use trace_laws::{lines_are_proper, traces_are_safe};
 
@@ -33,4 +41,21 @@ pub fn traces_show_no_breach()
     traces_are_safe();
     runs_show_no_breach();
     lines_are_proper();
+}
+
+/// What a download brings: its number and its cells. And what the judge finds: a conflict, but not after a load that the scenario does
+/// not have.
+pub fn small_cases()
+    ensures brought { brought (answered one_download) ≡ (1, yellow) ∷ [] }
+    ensures known { log_found smallest exact (both_green 0 0 ∷ []) ≡ breach_at 1 0 Clause.Apart 1 2 ∷ [] }
+    ensures unknown { log_found smallest exact (both_green 9 1 ∷ seventh ∷ []) ≡ [] }
+{}
+
+/// Without its condition the law is false. In a run of this scenario, other software downloads a yellow of phase 2 under the number of
+/// a load that disables phase 2: so, to the judge, phase 2 is lit while it is disabled.
+pub fn a_load_can_be_disguised()
+    ensures runs { Runnable disguised }
+    ensures found { log_found disguised exact (reverse (rest_lines disguised (serial_journals disguised))) ≡ breach_at 1 60 Clause.Apart 2 0 ∷ [] }
+{
+    standard_consistent();
 }
