@@ -11,3 +11,4 @@ pub mod NoScenario
 pub mod Reading
 pub mod Faultless
 pub mod Disguised
+pub mod Owning

@@ -14,12 +14,14 @@ ghost use Rattle.judge_laws.specs.Breaches.{exact, breach_at};
 ghost use Rattle.judge_session.specs.Report.{log_found};
 ghost use Rattle.run_definition.specs.Smallest.{smallest};
 ghost use Rattle.stage_txn.specs.Answers.{answered};
-ghost use Rattle.judged_runs.specs.Loads.{brought};
+ghost use Rattle.judged_runs.specs.Loads.{brought, LoadsAreOwn};
+ghost use Rattle.judged_runs.specs.Messages.{MessagesAreOwn};
 ghost use Rattle.judged_runs.specs.Rows.{yellow, one_download, both_green, seventh, disguised};
 ghost use Rattle.judged_runs.specs.Faultless.{IsFaultless, TraceIsFaultless};
 
 use rule_book::standard_consistent;
 use run_definition::any_order_is_safe;
+use stage_txn::{installs_what_keeps_the_rules, parts_come_in_order};
 use trace_laws::{lines_are_proper, traces_are_safe};
 
 /// For every order in which the items of a run arrive at its cabinets: at each cabinet, the ticks of its lines rise and its versions
@@ -41,6 +43,15 @@ pub fn traces_show_no_breach()
     traces_are_safe();
     runs_show_no_breach();
     lines_are_proper();
+}
+
+/// The condition holds if each message that reaches a cabinet, and names the number of a load, asks for a part of that load or for its
+/// number of parts: however messages are lost, repeated, delayed or mixed with others.
+pub fn own_messages_bring_own_loads()
+    ensures { (s : ScenarioContent) (journals : List (List (List ℕ))) → MessagesAreOwn s journals → LoadsAreOwn s journals }
+{
+    parts_come_in_order();
+    installs_what_keeps_the_rules();
 }
 
 /// What a download brings: its number and its cells. And what the judge finds: a conflict, but not after a load that the scenario does
