@@ -12,3 +12,5 @@ pub mod Reading
 pub mod Faultless
 pub mod Disguised
 pub mod Owning
+pub mod Peeling
+pub mod Asking
