@@ -1,12 +1,12 @@
 -- What the requests of the master and of a scenario ask: nothing under the number of a load that isn't of that load.
-use Rattle.std.proofs.Common.{◌≡◌, ◌<◌, ◌≤◌, ◌+◌, ◌-◌, ◌*◌, ◌∙◌, ◌==◌, ◌&&◌, nat_le, if◌then◌else◌, ℕ, zero, suc, ℤ, pos, Bool, true, false, List, [], ◌∷◌, ◌++◌, length, map, take, drop, Option, Some, None, Result, Ok, Err, is_ok, IfOk, IfSome, slice_get, refl, sym, ap, ap₂, subst, arith}
+use Rattle.std.proofs.Common.{◌≡◌, ◌<◌, ◌≤◌, ◌+◌, ◌∙◌, ◌&&◌, nat_le, if◌then◌else◌, ℕ, ℤ, pos, Bool, true, false, List, [], ◌∷◌, length, map, Option, Some, None, Result, Ok, Err, is_ok, IfOk, IfSome, refl, sym, ap, ap₂, subst, arith}
 use Rattle.std.specs.List.{flat_map, AllByRecursion}
 use Rattle.std.proofs.lemmas.Bool.{le-leb}
 use Rattle.sig_tables.specs.declared.tables.Tables.{Tables}
 use Rattle.sig_tables.specs.declared.cells.Cell.{Cell}
 use Rattle.sig_tables.specs.declared.cells.CellValue.{CellValue}
 use Rattle.sig_tables.specs.declared.cells.CellValue.TheVariants.{Number as NumberValue, Octets as OctetsValue}
-use Rattle.sig_tables.specs.Cells.{Content, Number, Octets as OctetsContent, content_of, IsCell, IsShort}
+use Rattle.sig_tables.specs.Cells.{Content, Number, Octets as OctetsContent, content_of}
 use Rattle.sig_tables.specs.Putting.{put_content}
 use Rattle.sig_tables.specs.Ranges.{fits_of}
 use Rattle.ber_code.specs.Fields.{AreTexts}
@@ -15,12 +15,12 @@ use Rattle.ber_code.proofs.Texts.{integer_is, name_is}
 use Rattle.snmp_msg.specs.declared.message.Pdu.{Pdu}
 use Rattle.snmp_msg.specs.declared.message.Pdu.TheVariants.{Get, Next, Response, Set}
 use Rattle.snmp_msg.specs.declared.message.Value.{Value}
-use Rattle.snmp_msg.specs.declared.message.Value.TheVariants.{Int, Octets, Null, Name as NameValue}
+use Rattle.snmp_msg.specs.declared.message.Value.TheVariants.{Int}
 use Rattle.snmp_msg.specs.declared.message.Bind.{Bind}
 use Rattle.snmp_msg.specs.declared.message.Message.{Message}
-use Rattle.snmp_msg.specs.Messages.{tag_of, IsMessage}
+use Rattle.snmp_msg.specs.Messages.{IsMessage}
 use Rattle.snmp_msg.specs.Shortest.{value_text, binding_text, shortest}
-use Rattle.snmp_msg.specs.Values.{IsValue, IsBinding}
+use Rattle.snmp_msg.specs.Values.{IsBinding}
 use Rattle.snmp_msg.proofs.WrittenLaws.{octets_are}
 use Rattle.oid_map.specs.declared.names.Name.{Name}
 use Rattle.oid_map.specs.declared.names.Name.TheVariants.{Cell as CellName, Txn}
@@ -28,7 +28,7 @@ use Rattle.oid_map.specs.Names.{IsName, arcs_of}
 use Rattle.oid_map.specs.Reading.{name_at}
 use Rattle.oid_map.proofs.Back.{back}
 use Rattle.trace_laws.proofs.Named.{name-short}
-use Rattle.requests.specs.Requests.{request, bound, number_at, value_of}
+use Rattle.requests.specs.Requests.{request, bound, number_at}
 use Rattle.master_load.specs.declared.download.Step.{Step}
 use Rattle.master_load.specs.declared.download.Step.TheVariants as step
 use Rattle.master_load.specs.Downloads.{IsPut as IsLoadPut, ArePuts, cell_bind, part_cells, parts_for, step_binds}
@@ -38,10 +38,10 @@ use Rattle.agent.specs.declared.ask.Ask.{Ask}
 use Rattle.agent.specs.declared.bindings.Fault.{Fault}
 use Rattle.agent.specs.Bindings.{before, each_gives}
 use Rattle.agent.specs.Orders.{order_of}
-use Rattle.agent.specs.Downloads.{number_in, id_in, cell_value, put_into, put_named, put_of, begin_wish, with_puts, part_wish, verify_wish, finish_wish, download_object, step_named, step_wish}
+use Rattle.agent.specs.Downloads.{id_in, put_into, put_of, begin_wish, with_puts, part_wish, verify_wish, finish_wish, download_object, step_wish}
 use Rattle.agent.specs.Asks.{direct_wish, set_wish, wish_of, ask_of, Asks}
 use Rattle.judged_runs.specs.Messages.{IsPartOf, IsTotalOf, IsOwnWish}
-use Rattle.judged_runs.proofs.Peeling.{IsRequestOf, IsClear, peeled, same-binds, first-name}
+use Rattle.judged_runs.proofs.Peeling.{IsClear, peeled, same-binds, first-name}
 
 -- each part of these cells can be put
 abbrev pub AllParts : List (Cell × Content) → Type 0
@@ -57,7 +57,7 @@ IsNoDownload (first ∷ others) = download_object (name_at first.name.items) ≡
 named : (name : Name) → IsName name → IsNameText (name_text (arcs_of name)) (arcs_of name)
 named name is = let short = name-short name is in name_is (arcs_of name) short.writable short.short
 
-number-clear : (name : Name) (n : ℕ) → IsName name → n < 2147483648 → IsClear (number_at name n)
+pub number-clear : (name : Name) (n : ℕ) → IsName name → n < 2147483648 → IsClear (number_at name n)
 unfolding value_text
 number-clear name n is small = record { name = named name is; value = integer_is (pos n) (omega (arith, small)) }
 
@@ -66,7 +66,7 @@ unfolding value_text
 cell-clear (cell, Number n) is = record { name = named (CellName cell) is.0; value = integer_is (pos n) (let l : n < 65536 = is.1 in omega (arith, l)) }
 cell-clear (cell, OctetsContent octets) is = record { name = named (CellName cell) is.0; value = octets_are (record { items = octets }) (let l : length octets ≤ 16 = is.1 in omega (arith, l)) }
 
-cells-clear : (cells : List (Cell × Content)) → ArePuts cells → AllByRecursion IsClear (map cell_bind cells)
+pub cells-clear : (cells : List (Cell × Content)) → ArePuts cells → AllByRecursion IsClear (map cell_bind cells)
 cells-clear [] all = tt
 cells-clear (put ∷ cells) all = (cell-clear put all.0, cells-clear cells all.1)
 

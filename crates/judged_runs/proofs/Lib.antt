@@ -14,3 +14,6 @@ pub mod Disguised
 pub mod Owning
 pub mod Peeling
 pub mod Asking
+pub mod Sending
+pub mod Carrying
+pub mod Arriving

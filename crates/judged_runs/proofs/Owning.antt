@@ -1,5 +1,5 @@
 -- A stage that is asked only for parts of loads puts loads in force.
-use Rattle.std.proofs.Common.{◌≡◌, ◌≢◌, ◌≤◌, ◌+◌, ◌-◌, ◌*◌, ◌/◌, ◌==◌, ◌∙◌, if◌then◌else◌, ℕ, Bool, true, false, List, [], ◌∷◌, ◌++◌, length, map, take, drop, Option, Some, None, IfSome, refl, sym, ap, ap₂, subst, arith, take-add, take_all}
+use Rattle.std.proofs.Common.{◌≡◌, ◌≤◌, ◌+◌, ◌-◌, ◌*◌, ◌==◌, ◌∙◌, if◌then◌else◌, ℕ, Bool, true, false, List, [], ◌∷◌, ◌++◌, length, map, take, drop, Option, Some, None, IfSome, refl, sym, ap, ap₂, subst, arith, take-add, take_all}
 use Rattle.std.specs.List.{AllByRecursion}
 use Rattle.std.proofs.lemmas.Bool.Decides.{Decides-eqb}
 use Rattle.sig_types.specs.declared.notes.StageAnswer.{StageAnswer}
@@ -10,17 +10,16 @@ use Rattle.sig_tables.specs.declared.cells.Cell.{Cell}
 use Rattle.sig_tables.specs.Cells.{Content}
 use Rattle.sig_tables.specs.Past.{History}
 use Rattle.sig_tables.specs.Putting.{put_content}
-use Rattle.master_load.specs.Downloads.{part_cells, parts_for}
 use Rattle.agent.specs.declared.ask.Wish.{Wish}
 use Rattle.agent.specs.declared.ask.Wish.TheVariants.{Get, Next, Direct, Begin, Part, Verify, Finish, Bad}
 use Rattle.agent.specs.declared.ask.Ask.{Ask}
 use Rattle.agent.specs.Asks.{ask_of}
 use Rattle.stage_txn.specs.declared.StageState.{StageState}
 use Rattle.stage_txn.specs.declared.StageState.TheVariants.{Rest, Open, Checked, Done}
-use Rattle.stage_txn.specs.Calls.{Call, Begin as BeginCall, Part as PartCall, Verify as VerifyCall, Finish as FinishCall, Answered, Deed, Began, Took, Closed, Installed, Reopened, Idle, begin_deed, part_deed, verify_deed, finish_deed, deeds, kept_by, taken_by}
+use Rattle.stage_txn.specs.Calls.{Begin as BeginCall, Part as PartCall, Verify as VerifyCall, Finish as FinishCall, Answered, Deed, Idle, begin_deed, part_deed, verify_deed, finish_deed, deeds, kept_by, taken_by}
 use Rattle.stage_txn.specs.Answers.{answered, answer_to, staged, stage_state_by, verify_answer, judged}
 use Rattle.stage_txn.specs.Laws.{PartsComeInOrder, InstallsWhatKeepsRules}
-use Rattle.cabinet_history.specs.Coming.{Coming, in_force, past_of, is_flashing, carried_out, heeded, with_item, coming_from}
+use Rattle.cabinet_history.specs.Coming.{Coming, in_force, past_of, is_flashing, carried_out, heeded, coming_from}
 use Rattle.cabinet_history.specs.Downloads.{content_by}
 use Rattle.judged_runs.specs.Loads.{IsLoadIfAny, brought_by, brought}
 use Rattle.judged_runs.specs.Messages.{IsPartOf, IsTotalOf, IsOwnWish, IsOwnItem}
@@ -179,9 +178,11 @@ module _ (load : ℕ → Option (List (Cell × Content))) where
     wish-own c (Begin id) is o = begin-own id (in_force c) (answer_to (answered c.calls) (BeginCall id (in_force c))) (deeds (answered c.calls)) (brought (answered c.calls)) o
     wish-own c (Part id number puts) is o =
         part-own (map put_content puts.items) (answer_to (answered c.calls) (PartCall id number (map put_content puts.items))) (deeds (answered c.calls)) (brought (answered c.calls))
-        (λ e. let next = laws.parts (answered c.calls) id number (map put_content puts.items) e in
-        (next.stands, subst (λ (k : ℕ). IsPartOf (load k) (taken_by (deeds (answered c.calls)) + 1) (map put_content puts.items)) next.same
-        (subst (λ (n : ℕ). IsPartOf (load id) n (map put_content puts.items)) next.part is)))
+        (λ e. let next = laws.parts (answered c.calls) id number (map put_content puts.items) e in (
+          next.stands,
+          subst (λ (k : ℕ). IsPartOf (load k) (taken_by (deeds (answered c.calls)) + 1) (map put_content puts.items)) next.same
+              (subst (λ (n : ℕ). IsPartOf (load id) n (map put_content puts.items)) next.part is),
+        ))
         o
     wish-own c (Verify id total) is o =
         verify-own (answer_to (answered c.calls) (VerifyCall id total (in_force c) (is_flashing (past_of c)))) (deeds (answered c.calls)) (brought (answered c.calls))

@@ -4,12 +4,12 @@ use Rattle.std.specs.List.{flat_map, AllByRecursion}
 use Rattle.std.proofs.Math.Seq.{drop-append_seam}
 use Rattle.ber_code.specs.Fields.{AreTexts}
 use Rattle.ber_code.specs.Lengths.{IsTagged, length_text, tagged_text}
-use Rattle.ber_code.specs.Integers.{IsInteger, integer_octets, integer_text}
-use Rattle.ber_code.specs.Names.{IsName, name_octets, name_text, IsWritable}
+use Rattle.ber_code.specs.Integers.{integer_octets, integer_text}
+use Rattle.ber_code.specs.Names.{IsName, name_text}
 use Rattle.ber_code.proofs.Exact.{alone_by}
 use Rattle.ber_code.proofs.LengthLaws.{tagged_exact}
 use Rattle.ber_code.proofs.NameLaws.{name_exact}
-use Rattle.ber_code.proofs.Texts.{tagged_is, name_is}
+use Rattle.ber_code.proofs.Texts.{tagged_is}
 use Rattle.snmp_msg.specs.declared.message.Pdu.{Pdu}
 use Rattle.snmp_msg.specs.declared.message.Bind.{Bind}
 use Rattle.snmp_msg.specs.declared.message.Message.{Message}
@@ -196,3 +196,12 @@ first-name b bs c cs named fits are =
     let is = are.2 in
     let a = cut 48 (binding_text b) are.0 (flat_map binding_text bs) are.1 (binding_content b) (is.name ++ is.value) (tagged-binding b (omega (arith, fits, sum))) is.whole are.4 in
     sym (alone_by name_exact (name_text b.name.items) is.name (value_text b.value) is.value b.name.items c.name.items named is.names a.1).1
+
+-- the text of a request that fits into a frame is tagged
+pub tagged-request : (pdu : Pdu) (community : List ℕ) (id : ℤ) (binds : List Bind) → length (shortest (request pdu community id binds)) ≤ 1472
+    → (c : List ℕ) × IsTagged 48 (shortest (request pdu community id binds)) c
+tagged-request pdu community id binds fits =
+    let is = text-is pdu community id binds in
+    let short : length (tagged_text 48 (content pdu community id binds)) ≤ 1472 = subst (λ (t : List ℕ). length t ≤ 1472) is fits in
+    let l = content-fits 48 (content pdu community id binds) in
+    (content pdu community id binds, subst (λ (t : List ℕ). IsTagged 48 t (content pdu community id binds)) (sym is) (tagged_is 48 (content pdu community id binds) (omega (arith, short, l))))

@@ -7,6 +7,10 @@ use Rattle.sig_tables.specs.declared.tables.Tables.{Tables}
 use Rattle.sig_tables.specs.declared.cells.Cell.{Cell}
 use Rattle.sig_tables.specs.Cells.{Content}
 use Rattle.sig_tables.specs.Putting.{put_content}
+use Rattle.scenario_data.specs.declared.scenario.Direction.{Direction}
+use Rattle.scenario_data.specs.declared.scenario.Direction.TheVariants.{Down, Up}
+use Rattle.scenario_data.specs.declared.scenario.FaultKind.{FaultKind}
+use Rattle.scenario_data.specs.declared.scenario.FaultKind.TheVariants.{Flip}
 use Rattle.scenario_data.specs.Content.{ScenarioContent}
 use Rattle.master_load.specs.Downloads.{part_cells, parts_for}
 use Rattle.agent.specs.declared.ask.Wish.{Wish}
@@ -40,3 +44,14 @@ IsOwnItem load community _ = Unit {0}
 abbrev pub MessagesAreOwn : ScenarioContent → List (List (List ℕ)) → Type 0
 MessagesAreOwn s journals = (cab : ℕ) (end : CabinetState) → HasComeTo cab end 1 (cabinet_states_after s (opened_cabinet_states s s.cabinets) journals)
     → AllByRecursion (IsOwnItem (load_told s cab) end.cabinet_history.community) end.cabinet_history.items
+
+-- a fault changes no octet of a message to a cabinet: it may lose, repeat, delay or cut it
+abbrev pub leaves : Direction → FaultKind → Type 0
+leaves Up kind = Unit {0}
+leaves Down Flip = ⊥
+leaves Down _ = Unit {0}
+
+-- no octet of a message to a cabinet is changed, and messages of other software ask for no other cells under the number of a load
+pub record IsPlainLink (s : ScenarioContent) : Type 0 where
+  pub frames : AllByRecursion (λ f. IsOwnItem (load_told s f.cabinet) s.community (Came f.hex)) s.frames
+  pub faults : AllByRecursion (λ f. leaves f.way f.kind) s.faults

@@ -15,10 +15,11 @@ ghost use Rattle.judge_session.specs.Report.{log_found};
 ghost use Rattle.run_definition.specs.Smallest.{smallest};
 ghost use Rattle.stage_txn.specs.Answers.{answered};
 ghost use Rattle.judged_runs.specs.Loads.{brought, LoadsAreOwn};
-ghost use Rattle.judged_runs.specs.Messages.{MessagesAreOwn};
+ghost use Rattle.judged_runs.specs.Messages.{IsPlainLink, MessagesAreOwn};
 ghost use Rattle.judged_runs.specs.Rows.{yellow, one_download, both_green, seventh, disguised};
 ghost use Rattle.judged_runs.specs.Faultless.{IsFaultless, TraceIsFaultless};
 
+use agent::frames_ask_one_thing;
 use rule_book::standard_consistent;
 use run_definition::any_order_is_safe;
 use stage_txn::{installs_what_keeps_the_rules, parts_come_in_order};
@@ -52,6 +53,16 @@ pub fn own_messages_bring_own_loads()
 {
     parts_come_in_order();
     installs_what_keeps_the_rules();
+}
+
+/// It holds for every run of a scenario whose link changes no octet of a message to a cabinet, and whose messages of other software ask
+/// for no other cells under the number of a load. So in all these runs no line shows a breach.
+pub fn plain_links_bring_own_loads()
+    ensures messages { (s : ScenarioContent) → Runnable s → IsPlainLink s → (journals : List (List (List ℕ))) → MessagesAreOwn s journals }
+    ensures loads { (s : ScenarioContent) → Runnable s → IsPlainLink s → (journals : List (List (List ℕ))) → LoadsAreOwn s journals }
+{
+    frames_ask_one_thing();
+    own_messages_bring_own_loads();
 }
 
 /// What a download brings: its number and its cells. And what the judge finds: a conflict, but not after a load that the scenario does
