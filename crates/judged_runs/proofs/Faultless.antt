@@ -24,7 +24,7 @@ use Rattle.judged_runs.proofs.Others.{is-cabinet}
 use Rattle.judged_runs.proofs.Shown.{whole-back}
 use Rattle.judged_runs.proofs.Following.{IsInOrder, cabinet-has, follows, own-frame}
 use Rattle.judged_runs.proofs.NoScenario.{rest-none}
-use Rattle.judged_runs.proofs.Reading.{AreJudged, is_read, read, lines-judged, known-read, follow-read, found-read, bytes-read, lines-read, lines-reversed, read-same, filter-reverse}
+use Rattle.judged_runs.proofs.Reading.{AreTaken, is_read, read, lines-judged, known-read, follow-read, found-read, bytes-read, lines-read, lines-reversed, read-same, filter-reverse}
 use Rattle.judged_runs.proofs.Judging.{rises, none-back, none-ids, whole-lines, known-fine, knows, shows-none}
 
 -- ---- what each line shows
@@ -92,7 +92,7 @@ accepted : (s : ScenarioContent) (journals : List (List (List ℕ))) → AreJour
 accepted s journals are kept proper =
     let back : List Line = reverse (run_lines s journals) in
     let rest : List Line = rest_lines s journals in
-    let judged : AreJudged back = lines-judged back (lines-reversed (run_lines s journals) proper) in
+    let judged : AreTaken back = lines-judged back (lines-reversed (run_lines s journals) proper) in
     let is : read back ≡ reverse (read_lines rest) = read-back s journals in
     record {
       log = λ bytes e. record {

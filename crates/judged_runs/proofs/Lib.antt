@@ -6,7 +6,6 @@ pub mod Versions
 pub mod Shown
 pub mod Judging
 pub mod Following
-pub mod Lengths
 pub mod NoScenario
 pub mod Reading
 pub mod Faultless

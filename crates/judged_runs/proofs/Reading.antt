@@ -9,6 +9,7 @@ use Rattle.sig_tables.specs.declared.cells.Cell.{Cell}
 use Rattle.sig_tables.specs.Cells.{Content}
 use Rattle.trace_text.specs.declared.lines.Line.{Line}
 use Rattle.trace_text.specs.declared.lines.Line.TheVariants.{S, F, R, M, J, L, A, Z}
+use Rattle.trace_text.specs.IsLine.{IsLine}
 use Rattle.trace_text.specs.Line.{line_text}
 use Rattle.safety_laws.specs.Safe.{Indications, told}
 use Rattle.safety_laws.specs.TraceText.{AreLines}
@@ -21,11 +22,12 @@ use Rattle.judge_laws.specs.TablesTold.{loaded, tables_told, version_told}
 use Rattle.judge_laws.proofs.Tests.{funext}
 use Rattle.judge_session.specs.Told.{has_cabinet, load_told, opening_at, is_known, tables_before}
 use Rattle.judge_session.specs.declared.faults.LineFault.TheVariants.{NoCabinet}
-use Rattle.judge_session.specs.Log.{frame_fault, load_fault, fault_of, Follow, ended, short_lines}
+use Rattle.trace_laws.proofs.SameLines.{front, front_ended}
+use Rattle.judge_session.proofs.Lengths.{short}
+use Rattle.judge_session.specs.Log.{IsJudged, frame_fault, load_fault, fault_of, Follow, ended, short_lines}
 use Rattle.judge_session.specs.Report.{log_found}
 use Rattle.judged_runs.specs.Faultless.{read_lines}
 use Rattle.judged_runs.proofs.NoScenario.{HasNoScenario}
-use Rattle.judged_runs.proofs.Lengths.{frame-short, load-short}
 
 -- a line that is read: a short one without a scenario
 abbrev pub is_read : Line → Bool
@@ -36,20 +38,26 @@ abbrev pub read : List Line → List Line
 read lines = filter is_read lines
 
 -- frames and accepted loads are read
-abbrev IsJudged : Line → Type 0
-IsJudged (F cab tick veh ped mode counter target version) = is_read (F cab tick veh ped mode counter target version) ≡ true
-IsJudged (L cab id (Ok version)) = is_read (L cab id (Ok version)) ≡ true
-IsJudged _ = Unit {0}
+abbrev IsTaken : Line → Type 0
+IsTaken (F cab tick veh ped mode counter target version) = is_read (F cab tick veh ped mode counter target version) ≡ true
+IsTaken (L cab id (Ok version)) = is_read (L cab id (Ok version)) ≡ true
+IsTaken _ = Unit {0}
 
-abbrev pub AreJudged : List Line → Type 0
-AreJudged [] = Unit {0}
-AreJudged (line ∷ lines) = IsJudged line × AreJudged lines
+abbrev pub AreTaken : List Line → Type 0
+AreTaken [] = Unit {0}
+AreTaken (line ∷ lines) = IsTaken line × AreTaken lines
 
-pub lines-judged : (lines : List Line) → AreLines lines → AreJudged lines
+-- a line that is judged is short
+short-text : (line : Line) → IsLine line → IsJudged line → nat_le (length (line_text line)) 4097 ≡ true
+short-text line is judged =
+    let l : length (front line) ≤ 4096 = short (front line) line (record { is = is; text = sym (front_ended line) }) judged in
+    let e : length (line_text line) ≡ length (front line) + 1 = ap length (front_ended line) ∙ length-append (front line) (10 ∷ []) in
+    le-leb (length (line_text line)) 4097 (omega (arith, l, e))
+
+pub lines-judged : (lines : List Line) → AreLines lines → AreTaken lines
 lines-judged [] are = tt
-lines-judged (F cab tick veh ped mode counter target version ∷ lines) are =
-    (le-leb (length (line_text (F cab tick veh ped mode counter target version))) 4097 (frame-short cab tick veh ped mode counter target version are.0), lines-judged lines are.1)
-lines-judged (L cab id (Ok version) ∷ lines) are = (le-leb (length (line_text (L cab id (Ok version)))) 4097 (load-short cab id version are.0), lines-judged lines are.1)
+lines-judged (F cab tick veh ped mode counter target version ∷ lines) are = (short-text (F cab tick veh ped mode counter target version) are.0 tt, lines-judged lines are.1)
+lines-judged (L cab id (Ok version) ∷ lines) are = (short-text (L cab id (Ok version)) are.0 tt, lines-judged lines are.1)
 lines-judged (L cab id (Err broken) ∷ lines) are = (tt, lines-judged lines are.1)
 lines-judged (S json ∷ lines) are = (tt, lines-judged lines are.1)
 lines-judged (R round ∷ lines) are = (tt, lines-judged lines are.1)
@@ -68,7 +76,7 @@ ignores f line same back e = split (is_read line)
     split false = e ∙ sym (same back)
 
 -- what the lines of a cabinet say
-told-read : (cab : ℕ) (back : List Line) → AreJudged back → told cab (read back) ≡ told cab back
+told-read : (cab : ℕ) (back : List Line) → AreTaken back → told cab (read back) ≡ told cab back
 told-read cab [] are = refl
 told-read cab (F c tick veh ped mode counter target version ∷ back) are = rw are.0 (split (c == cab) (told-read cab back are.1))
   where
@@ -86,7 +94,7 @@ told-read cab (J c runs ∷ back) are = ignores (told cab) (J c runs) (λ b. ref
 told-read cab (A c pass reply ∷ back) are = ignores (told cab) (A c pass reply) (λ b. refl) back (told-read cab back are.1)
 told-read cab (Z rounds ∷ back) are = ignores (told cab) (Z rounds) (λ b. refl) back (told-read cab back are.1)
 
-downloads-read : (cab : ℕ) (back : List Line) → AreJudged back → downloads cab (read back) ≡ downloads cab back
+downloads-read : (cab : ℕ) (back : List Line) → AreTaken back → downloads cab (read back) ≡ downloads cab back
 downloads-read cab [] are = refl
 downloads-read cab (L c id (Ok version) ∷ back) are = rw are.0 (split (c == cab) (downloads-read cab back are.1))
   where
@@ -104,7 +112,7 @@ downloads-read cab (A c pass reply ∷ back) are = ignores (downloads cab) (A c 
 downloads-read cab (Z rounds ∷ back) are = ignores (downloads cab) (Z rounds) (λ b. refl) back (downloads-read cab back are.1)
 
 module _ (load : ℕ → Option (List (Cell × Content))) (opening : Tables) (cab : ℕ) where
-  tables-read : (back : List Line) → AreJudged back → tables_told load opening cab (read back) ≡ tables_told load opening cab back
+  tables-read : (back : List Line) → AreTaken back → tables_told load opening cab (read back) ≡ tables_told load opening cab back
   tables-read [] are = refl
   tables-read (L c id (Ok version) ∷ back) are = rw are.0 (split (c == cab) (tables-read back are.1))
     where
@@ -126,7 +134,7 @@ module _ (load : ℕ → Option (List (Cell × Content))) (opening : Tables) (ca
   abbrev told_at : ℕ → List Line → Option Tables
   told_at version back = version_told load opening cab back version
 
-  version-read : (version : ℕ) (back : List Line) → AreJudged back → version_told load opening cab (read back) version ≡ version_told load opening cab back version
+  version-read : (version : ℕ) (back : List Line) → AreTaken back → version_told load opening cab (read back) version ≡ version_told load opening cab back version
   version-read version [] are = refl
   version-read version (L c id (Ok made) ∷ back) are =
       rw (are.0, downloads-read cab back are.1) (split (c == cab && version == downloads cab back + 1) (tables-read back are.1) (version-read version back are.1))
@@ -148,22 +156,22 @@ module _ (load : ℕ → Option (List (Cell × Content))) (opening : Tables) (ca
   version-read version (Z rounds ∷ back) are = ignores (told_at version) (Z rounds) (λ b. refl) back (version-read version back are.1)
 
 module _ (s : ScenarioContent) where
-  pub known-read : (cab : ℕ) (back : List Line) → AreJudged back → is_known s cab (read back) ≡ is_known s cab back
+  pub known-read : (cab : ℕ) (back : List Line) → AreTaken back → is_known s cab (read back) ≡ is_known s cab back
   known-read cab back are = ap is_some (tables-read (load_told s cab) (opening_at s cab) cab back are)
 
-  before-read : (cab : ℕ) (back : List Line) → AreJudged back → tables_before s (read back) cab ≡ tables_before s back cab
+  before-read : (cab : ℕ) (back : List Line) → AreTaken back → tables_before s (read back) cab ≡ tables_before s back cab
   before-read cab back are =
       funext (tables_before s (read back) cab) (tables_before s back cab)
       (λ version. ap (λ (t : Option Tables). unwrap_or t (opening_at s cab)) (version-read (load_told s cab) (opening_at s cab) cab version back are))
 
   -- ---- each line follows, and shows the same
 
-  frame-same : (cab tick version : ℕ) (back : List Line) → AreJudged back
+  frame-same : (cab tick version : ℕ) (back : List Line) → AreTaken back
       → (if not (has_cabinet s cab) then Some NoCabinet else frame_fault tick version cab (read back))
       ≡ (if not (has_cabinet s cab) then Some NoCabinet else frame_fault tick version cab back)
   frame-same cab tick version back are = rw (told-read cab back are, downloads-read cab back are) refl
 
-  load-same : (cab version : ℕ) (back : List Line) → AreJudged back
+  load-same : (cab version : ℕ) (back : List Line) → AreTaken back
       → (if not (has_cabinet s cab) then Some NoCabinet else load_fault version cab (read back))
       ≡ (if not (has_cabinet s cab) then Some NoCabinet else load_fault version cab back)
   load-same cab version back are = rw (downloads-read cab back are) refl
@@ -175,7 +183,7 @@ module _ (s : ScenarioContent) where
       split true = (never (read back), f)
       split false = f
 
-  pub follow-read : (back : List Line) → AreJudged back → Follow s back → Follow s (read back)
+  pub follow-read : (back : List Line) → AreTaken back → Follow s back → Follow s (read back)
   follow-read [] are f = tt
   follow-read (F c tick veh ped mode counter target version ∷ back) are f =
       rw are.0 (frame-same c tick version back are.1 ∙ f.0, follow-read back are.1 f.1)
@@ -193,7 +201,7 @@ module _ (s : ScenarioContent) where
     abbrev shown_by : ℕ → ℕ × Indications → Bool → (ℕ → Tables) → List (ℕ × Indications) → List Breach
     shown_by c x known tables older = if known then frame_breaches terms c tables older x else []
 
-    shown-same : (c : ℕ) (x : ℕ × Indications) (back : List Line) → AreJudged back
+    shown-same : (c : ℕ) (x : ℕ × Indications) (back : List Line) → AreTaken back
         → shown_by c x (is_known s c (read back)) (tables_before s (read back) c) (told c (read back))
         ≡ shown_by c x (is_known s c back) (tables_before s back c) (told c back)
     shown-same c x back are =
@@ -205,7 +213,7 @@ module _ (s : ScenarioContent) where
     no-more [] = refl
     no-more (x ∷ xs) = ap (λ (y : List Breach). x ∷ y) (no-more xs)
 
-    pub found-read : (back : List Line) → AreJudged back → log_found s terms (read back) ≡ log_found s terms back
+    pub found-read : (back : List Line) → AreTaken back → log_found s terms (read back) ≡ log_found s terms back
     found-read [] are = refl
     found-read (F c tick veh ped mode counter target version ∷ back) are =
         rw are.0

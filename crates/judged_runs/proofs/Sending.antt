@@ -178,20 +178,20 @@ abbrev Found : Type 0
 Found = (frame community : List ℕ) (t : Tables) → IfSome (ask_of frame community t) (Asks frame community t)
 
 own-part : (s : ScenarioContent) (cab n k : ℕ) → IsPartOf (load_told s cab n) k (part_cells (cells_of (loads_of cab s.loads) n) k)
-own-part s cab zero k = tt
-own-part s cab (suc p) k = let e : suc p - 1 ≡ p = omega arith in rw e (split (slice_get (loads_of cab s.loads) p))
+own-part s cab n k = split (n == 0) (slice_get (loads_of cab s.loads) (n - 1))
   where
-    split : (o : Option LoadContent) → IsPartOf (option_map (λ l. l.cells) o) k (part_cells (cells_in o) k)
-    split None = tt
-    split (Some l) = refl
+    split : (b : Bool) (o : Option LoadContent) → IsPartOf (if b then None else option_map (λ l. l.cells) o) k (part_cells (cells_in o) k)
+    split true o = tt
+    split false None = tt
+    split false (Some l) = refl
 
 own-total : (s : ScenarioContent) (cab n : ℕ) → IsTotalOf (load_told s cab n) (parts_for (length (cells_of (loads_of cab s.loads) n)))
-own-total s cab zero = tt
-own-total s cab (suc p) = let e : suc p - 1 ≡ p = omega arith in rw e (split (slice_get (loads_of cab s.loads) p))
+own-total s cab n = split (n == 0) (slice_get (loads_of cab s.loads) (n - 1))
   where
-    split : (o : Option LoadContent) → IsTotalOf (option_map (λ l. l.cells) o) (parts_for (length (cells_in o)))
-    split None = tt
-    split (Some l) = refl
+    split : (b : Bool) (o : Option LoadContent) → IsTotalOf (if b then None else option_map (λ l. l.cells) o) (parts_for (length (cells_in o)))
+    split true o = tt
+    split false None = tt
+    split false (Some l) = refl
 
 steps-clear : (n : ℕ) (cells : List (Cell × Content)) (at : Step) → n < 2147483648 → IsStep at → AreFew cells → AllByRecursion IsClear (step_binds n cells at)
 steps-clear n cells step.Begin small is few = (number-clear (Txn 2) n (omega arith, omega arith) small, tt)

@@ -9,9 +9,10 @@ use Rattle.scenario_read.specs.Answers.{IsScenario}
 use Rattle.run_definition.specs.Lines.{run_text}
 use Rattle.run_definition.specs.Orders.{AreJournals}
 use Rattle.judge_laws.specs.Breaches.{exact, breaches, Rising}
-use Rattle.judge_session.specs.Told.{is_known, tables_before}
+use Rattle.judge_session.specs.Told.{tables_before}
 use Rattle.judge_session.specs.Log.{IsLog, ended}
 use Rattle.judge_session.specs.Report.{log_found}
+use Rattle.judge_session.specs.Streets.{AllKnown}
 use Rattle.trace_laws.specs.Text.{IsTextOf}
 use Rattle.judged_runs.specs.Loads.{LoadsAreOwn, AllAreLoads}
 
@@ -25,7 +26,7 @@ read_lines lines = filter (λ line. nat_le (length (line_text line)) 4097) lines
 pub record IsAcceptedLog (s : ScenarioContent) (journals : List (List (List ℕ))) (rest : List Line) : Type 0 where
   pub log : (bytes : List (List ℕ)) → map ended bytes ≡ map line_text rest → IsLog s bytes (reverse (read_lines rest))
   pub none : LoadsAreOwn s journals → log_found s exact (reverse (read_lines rest)) ≡ []
-  pub known : AllAreLoads s journals → (cab : ℕ) → is_known s cab (reverse (read_lines rest)) ≡ true
+  pub known : AllAreLoads s journals → AllKnown s (reverse (read_lines rest))
 
 -- these are the lines of a run whose journals are these: the first has the scenario, the others are an accepted log. At each cabinet,
 -- the ticks rise and the versions are whole. If each download was a load of the scenario, no line shows a breach, to the tick
