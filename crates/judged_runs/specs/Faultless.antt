@@ -1,5 +1,5 @@
 -- What a judge finds in the lines of a run: each can follow those before it, and none shows a breach.
-use Rattle.std.specs.Prelude.{ℕ, ◌≡◌, nat_le, true, List, [], ◌∷◌, length, map, filter, reverse}
+use Rattle.std.specs.Prelude.{ℕ, ◌≡◌, nat_le, List, [], ◌∷◌, length, map, filter, reverse}
 use Rattle.trace_text.specs.declared.lines.Line.{Line}
 use Rattle.trace_text.specs.declared.lines.Line.TheVariants.{S}
 use Rattle.trace_text.specs.Line.{line_text}
