@@ -24,16 +24,16 @@ use Rattle.judged_runs.specs.Messages.{IsOwnItem, IsPlainLink, MessagesAreOwn}
 use Rattle.judged_runs.proofs.Sending.{Sound, IsOwnText, last-poll, last-load, requested-own}
 use Rattle.judged_runs.proofs.Carrying.{both, carried-own}
 
-module _ (s : ScenarioContent) (plain : IsPlainLink s) (sound : Sound s) where
+module _ (only : Bool) (s : ScenarioContent) (plain : IsPlainLink only s) (sound : Sound s) where
   abbrev OwnItem : ℕ → Item → Type 0
-  OwnItem cab item = IsOwnItem (load_told s cab) s.community item
+  OwnItem cab item = IsOwnItem only (load_told s cab) s.community item
 
   abbrev OwnTexts : ℕ → List (List ℕ) → Type 0
-  OwnTexts cab texts = AllByRecursion (λ text. IsOwnItem (load_told s cab) s.community (Came text)) texts
+  OwnTexts cab texts = AllByRecursion (λ text. IsOwnItem only (load_told s cab) s.community (Came text)) texts
 
   -- ---- what reaches a cabinet on a stream
 
-  frames-own : (cab round : ℕ) (way : Way) (frames : List FrameContent) → AllByRecursion (λ f. IsOwnItem (load_told s f.cabinet) s.community (Came f.hex)) frames
+  frames-own : (cab round : ℕ) (way : Way) (frames : List FrameContent) → AllByRecursion (λ f. IsOwnItem only (load_told s f.cabinet) s.community (Came f.hex)) frames
       → OwnTexts cab (frames_of frames round cab way)
   frames-own cab round way [] all = tt
   frames-own cab round way (f ∷ frames) all = split (is_frame_of round cab way f) refl (frames-own cab round way frames all.1)
@@ -46,24 +46,24 @@ module _ (s : ScenarioContent) (plain : IsPlainLink s) (sound : Sound s) where
       split true e rest =
           let a = and_parts (f.round == round && f.cabinet == cab) (same_way f.stream way) e in
           let b = and_parts (f.round == round) (f.cabinet == cab) a.0 in
-          (subst (λ (n : ℕ). IsOwnItem (load_told s n) s.community (Came f.hex)) ((Decides-eqb f.cabinet cab).0 b.1) all.0, rest)
+          (subst (λ (n : ℕ). IsOwnItem only (load_told s n) s.community (Came f.hex)) ((Decides-eqb f.cabinet cab).0 b.1) all.0, rest)
       split false e rest = rest
 
-  reach-own : (cab : ℕ) (way : Way) (sent : List (List (List ℕ))) → AllByRecursion (AllByRecursion (IsOwnText s cab)) (sent_on s cab way sent) → OwnTexts cab (reaching s cab way sent)
+  reach-own : (cab : ℕ) (way : Way) (sent : List (List (List ℕ))) → AllByRecursion (AllByRecursion (IsOwnText only s cab)) (sent_on s cab way sent) → OwnTexts cab (reaching s cab way sent)
   reach-own cab way sent own =
-      both s cab sound (carried s.faults (line_down cab way) (sent_on s cab way sent)) (frames_of s.frames (length sent) cab way)
-      (carried-own s cab sound (line_down cab way) refl s.faults plain.faults (sent_on s cab way sent) own)
+      both only s cab sound (carried s.faults (line_down cab way) (sent_on s cab way sent)) (frames_of s.frames (length sent) cab way)
+      (carried-own only s cab sound (line_down cab way) refl s.faults plain.faults (sent_on s cab way sent) own)
       (frames-own cab (length sent) way s.frames plain.frames)
 
   polls-own : (cab : ℕ) (c : CabinetContent) (arrived : List Arrived)
-      → AllByRecursion (AllByRecursion (IsOwnText s cab)) (map (λ f. option_to_list f.poll) (sendings s cab c arrived))
+      → AllByRecursion (AllByRecursion (IsOwnText only s cab)) (map (λ f. option_to_list f.poll) (sendings s cab c arrived))
   polls-own cab c [] = tt
-  polls-own cab c (a ∷ arrived) = (last-poll s cab (turns s cab c (a ∷ arrived)) sound, polls-own cab c arrived)
+  polls-own cab c (a ∷ arrived) = (last-poll only s cab (turns s cab c (a ∷ arrived)) sound, polls-own cab c arrived)
 
   loads-own : (cab : ℕ) (c : CabinetContent) (arrived : List Arrived)
-      → AllByRecursion (AllByRecursion (IsOwnText s cab)) (map (λ f. option_to_list f.load) (sendings s cab c arrived))
+      → AllByRecursion (AllByRecursion (IsOwnText only s cab)) (map (λ f. option_to_list f.load) (sendings s cab c arrived))
   loads-own cab c [] = tt
-  loads-own cab c (a ∷ arrived) = (last-load s cab c (a ∷ arrived) sound, loads-own cab c arrived)
+  loads-own cab c (a ∷ arrived) = (last-load only s cab c (a ∷ arrived) sound, loads-own cab c arrived)
 
   -- ---- the streams
 
@@ -91,7 +91,7 @@ module _ (s : ScenarioContent) (plain : IsPlainLink s) (sound : Sound s) where
         came-own cab (delivered s cab c answered 2) (reach-own cab Load (loads_sent s cab c answered) (loads-own cab c (arrivals s cab answered))),
         (
           came-own cab (delivered s cab c answered 3)
-              (reach-own cab Prio (polls_sent s cab c answered) (requested-own s cab (length (polls_sent s cab c answered)) sound)),
+              (reach-own cab Prio (polls_sent s cab c answered) (requested-own only s cab (length (polls_sent s cab c answered)) sound)),
           (ticks-own cab s.ticks, tt),
         ),
       ),
@@ -154,8 +154,8 @@ module _ (s : ScenarioContent) (plain : IsPlainLink s) (sound : Sound s) where
       subst (λ (n : ℕ). OwnHistory n end.cabinet_history) (sym here.0) (subst (λ (x : CabinetState). OwnHistory first x.cabinet_history) (sym here.1) own.0)
   come-own cab first end (t ∷ ts) (inr later) own = come-own cab (first + 1) end ts later own.1
 
-  pub plain-own : (journals : List (List (List ℕ))) → MessagesAreOwn s journals
+  pub plain-own : (journals : List (List (List ℕ))) → MessagesAreOwn only s journals
   plain-own journals cab end come =
       let h = come-own cab 1 end (cabinet_states_after s (opened_cabinet_states s s.cabinets) journals) come
       (rounds-own (opened_cabinet_states s s.cabinets) journals (opened-own 1 s.cabinets)) in
-      subst (λ (community : List ℕ). AllByRecursion (IsOwnItem (load_told s cab) community) end.cabinet_history.items) (sym h.community) h.items
+      subst (λ (community : List ℕ). AllByRecursion (IsOwnItem only (load_told s cab) community) end.cabinet_history.items) (sym h.community) h.items

@@ -40,7 +40,7 @@ use Rattle.agent.specs.Bindings.{before, each_gives}
 use Rattle.agent.specs.Orders.{order_of}
 use Rattle.agent.specs.Downloads.{id_in, put_into, put_of, begin_wish, with_puts, part_wish, verify_wish, finish_wish, download_object, step_wish}
 use Rattle.agent.specs.Asks.{direct_wish, set_wish, wish_of, ask_of, Asks}
-use Rattle.judged_runs.specs.Messages.{IsPartOf, IsTotalOf, IsOwnWish}
+use Rattle.judged_runs.specs.Messages.{IsPartOf, IsTotalOf, IsFinishOf, IsOwnWish}
 use Rattle.judged_runs.proofs.Peeling.{IsClear, peeled, same-binds, first-name}
 
 -- each part of these cells can be put
@@ -102,97 +102,97 @@ each-ok place (put ∷ cells) all =
 
 -- ---- what is wished
 
-module _ (load : ℕ → Option (List (Cell × Content))) where
-  begin-own : (r : Result ℕ ℕ) (others : List Bind) → IsOwnWish load (begin_wish r others)
+module _ (only : Bool) (load : ℕ → Option (List (Cell × Content))) where
+  begin-own : (r : Result ℕ ℕ) (others : List Bind) → IsOwnWish only load (begin_wish r others)
   begin-own (Ok id) [] = tt
   begin-own (Ok id) (second ∷ others) = tt
   begin-own (Err status) others = tt
 
-  direct-own : (r : Result (List Order) Fault) → IsOwnWish load (direct_wish r)
+  direct-own : (r : Result (List Order) Fault) → IsOwnWish only load (direct_wish r)
   direct-own (Ok orders) = tt
   direct-own (Err fault) = tt
 
   puts-own : (id number : ℕ) (r : Result (List (Cell × CellValue)) Fault) (cells : List (Cell × Content)) → IfOk r (λ puts. map put_content puts ≡ cells)
-      → IsPartOf (load id) number cells → IsOwnWish load (with_puts id number r)
+      → IsPartOf (load id) number cells → IsOwnWish only load (with_puts id number r)
   puts-own id number (Ok puts) cells e is = subst (IsPartOf (load id) number) (sym e) is
   puts-own id number (Err fault) cells e is = tt
 
   part-own : (id k : ℕ) (b : Bool) (cells : List (Cell × Content)) → ArePuts cells → IsPartOf (load id) k cells
-      → IsOwnWish load (part_wish id (if b then Ok k else Err 3) (map cell_bind cells))
+      → IsOwnWish only load (part_wish id (if b then Ok k else Err 3) (map cell_bind cells))
   part-own id k true cells all is = puts-own id k (each_gives put_of 3 (map cell_bind cells)) cells (each-ok 3 cells all) is
   part-own id k false cells all is = tt
 
-  verify-own : (id total : ℕ) (b : Bool) → IsTotalOf (load id) total → IsOwnWish load (verify_wish id (if b then Ok total else Err 3) [])
+  verify-own : (id total : ℕ) (b : Bool) → IsTotalOf (load id) total → IsOwnWish only load (verify_wish id (if b then Ok total else Err 3) [])
   verify-own id total true is = is
   verify-own id total false is = tt
 
-  finish-own : (id : ℕ) (b : Bool) → IsOwnWish load (finish_wish id (if b then Ok 1 else Err 3) [])
-  finish-own id true = tt
-  finish-own id false = tt
+  finish-own : (id : ℕ) (b : Bool) → IsFinishOf only (load id) → IsOwnWish only load (finish_wish id (if b then Ok 1 else Err 3) [])
+  finish-own id true fin = fin
+  finish-own id false fin = tt
 
   -- a step under this number, whose own cells these are
   step-own : (t : Tables) (id : ℕ) (cells : List (Cell × Content)) (at : Step) → AllParts cells → ((k : ℕ) → IsPartOf (load id) k (part_cells cells k))
-      → IsTotalOf (load id) (parts_for (length cells)) → IsOwnWish load (set_wish t (step_binds id cells at))
-  step-own t id cells step.Begin all parts total = rw (back (Txn 2) (omega arith, omega arith)) (begin-own (id_in (Int (pos id))) [])
-  step-own t id cells (step.Part k) all parts total =
+      → IsTotalOf (load id) (parts_for (length cells)) → IsFinishOf only (load id) → IsOwnWish only load (set_wish t (step_binds id cells at))
+  step-own t id cells step.Begin all parts total fin = rw (back (Txn 2) (omega arith, omega arith)) (begin-own (id_in (Int (pos id))) [])
+  step-own t id cells (step.Part k) all parts total fin =
       rw (back (Txn 3) (omega arith, omega arith)) (split (nat_le 1 id && nat_le id 2147483647))
     where
-      split : (b : Bool) → IsOwnWish load (step_wish (if b then Ok id else Err 3) (number_at (Txn 4) k ∷ map cell_bind (part_cells cells k)))
+      split : (b : Bool) → IsOwnWish only load (step_wish (if b then Ok id else Err 3) (number_at (Txn 4) k ∷ map cell_bind (part_cells cells k)))
       split true = rw (back (Txn 4) (omega arith, omega arith)) (part-own id k (nat_le 1 k && nat_le k 60000) (part_cells cells k) (all k) (parts k))
       split false = tt
-  step-own t id cells step.Verify all parts total =
+  step-own t id cells step.Verify all parts total fin =
       rw (back (Txn 3) (omega arith, omega arith)) (split (nat_le 1 id && nat_le id 2147483647))
     where
       n : ℕ
       n = parts_for (length cells)
 
-      split : (b : Bool) → IsOwnWish load (step_wish (if b then Ok id else Err 3) (number_at (Txn 5) n ∷ []))
+      split : (b : Bool) → IsOwnWish only load (step_wish (if b then Ok id else Err 3) (number_at (Txn 5) n ∷ []))
       split true = rw (back (Txn 5) (omega arith, omega arith)) (verify-own id n (nat_le 0 n && nat_le n 60000) total)
       split false = tt
-  step-own t id cells step.Finish all parts total =
+  step-own t id cells step.Finish all parts total fin =
       rw (back (Txn 3) (omega arith, omega arith)) (split (nat_le 1 id && nat_le id 2147483647))
     where
-      split : (b : Bool) → IsOwnWish load (step_wish (if b then Ok id else Err 3) (number_at (Txn 6) 1 ∷ []))
-      split true = rw (back (Txn 6) (omega arith, omega arith)) (finish-own id (nat_le 1 1 && nat_le 1 1))
+      split : (b : Bool) → IsOwnWish only load (step_wish (if b then Ok id else Err 3) (number_at (Txn 6) 1 ∷ []))
+      split true = rw (back (Txn 6) (omega arith, omega arith)) (finish-own id (nat_le 1 1 && nat_le 1 1) fin)
       split false = tt
 
   -- a Set of something else than a download
-  other-own : (t : Tables) (binds : List Bind) → IsNoDownload binds → IsOwnWish load (set_wish t binds)
+  other-own : (t : Tables) (binds : List Bind) → IsNoDownload binds → IsOwnWish only load (set_wish t binds)
   other-own t [] is = tt
   other-own t (first ∷ others) is = rw is (direct-own (each_gives (order_of t) 1 (first ∷ others)))
 
   -- ---- a request
 
   -- what a message of this kind wishes, where a Set of its bindings is own
-  wished : (t : Tables) (pdu : Pdu) (binds : List Bind) → (pdu ≡ Set → IsOwnWish load (set_wish t binds)) → IfSome (wish_of t pdu binds) (IsOwnWish load)
+  wished : (t : Tables) (pdu : Pdu) (binds : List Bind) → (pdu ≡ Set → IsOwnWish only load (set_wish t binds)) → IfSome (wish_of t pdu binds) (IsOwnWish only load)
   wished t Get binds own = tt
   wished t Next binds own = tt
   wished t Response binds own = tt
   wished t Set binds own = own refl
 
   asked-own : (octets community : List ℕ) (t : Tables) (o : Option Ask) → IfSome o (Asks octets community t)
-      → ((m : Message) → IsMessage octets m → IsOwnWish load (set_wish t m.binds.items)) → IfSome o (λ ask. IsOwnWish load ask.wish)
+      → ((m : Message) → IsMessage octets m → IsOwnWish only load (set_wish t m.binds.items)) → IfSome o (λ ask. IsOwnWish only load ask.wish)
   asked-own octets community t None is own = tt
   asked-own octets community t (Some ask) is own =
-      subst (λ (w : Option Wish). IfSome w (IsOwnWish load)) is.wish
+      subst (λ (w : Option Wish). IfSome w (IsOwnWish only load)) is.wish
       (wished t ask.message.pdu ask.message.binds.items (λ e. own ask.message is.message))
 
   -- the steps of a download
   pub load-asks : ((frame community : List ℕ) (t : Tables) → IfSome (ask_of frame community t) (Asks frame community t))
       → (community : List ℕ) (id : ℤ) (n : ℕ) (cells : List (Cell × Content)) (at : Step) → AllByRecursion IsClear (step_binds n cells at) → AllParts cells
-      → ((k : ℕ) → IsPartOf (load n) k (part_cells cells k)) → IsTotalOf (load n) (parts_for (length cells))
-      → (own : List ℕ) (t : Tables) → IfSome (ask_of (shortest (request Set community id (step_binds n cells at))) own t) (λ ask. IsOwnWish load ask.wish)
-  load-asks found community id n cells at clear all parts total own t =
+      → ((k : ℕ) → IsPartOf (load n) k (part_cells cells k)) → IsTotalOf (load n) (parts_for (length cells)) → IsFinishOf only (load n)
+      → (own : List ℕ) (t : Tables) → IfSome (ask_of (shortest (request Set community id (step_binds n cells at))) own t) (λ ask. IsOwnWish only load ask.wish)
+  load-asks found community id n cells at clear all parts total fin own t =
       let text : List ℕ = shortest (request Set community id (step_binds n cells at)) in
       asked-own text own t (ask_of text own t) (found text own t)
       (λ m is. let r = peeled Set community id (step_binds n cells at) m is in
-      subst (λ (bs : List Bind). IsOwnWish load (set_wish t bs)) (sym (same-binds (step_binds n cells at) m.binds.items clear r.fits r.texts))
-      (step-own t n cells at all parts total))
+      subst (λ (bs : List Bind). IsOwnWish only load (set_wish t bs)) (sym (same-binds (step_binds n cells at) m.binds.items clear r.fits r.texts))
+      (step-own t n cells at all parts total fin))
 
   -- anything that isn't a download
   pub other-asks : ((frame community : List ℕ) (t : Tables) → IfSome (ask_of frame community t) (Asks frame community t))
       → (pdu : Pdu) (community : List ℕ) (id : ℤ) (name : Name) (value : Value) (others : List Bind) → IsName name → download_object (Some name) ≡ 0
-      → (own : List ℕ) (t : Tables) → IfSome (ask_of (shortest (request pdu community id (bound name value ∷ others))) own t) (λ ask. IsOwnWish load ask.wish)
+      → (own : List ℕ) (t : Tables) → IfSome (ask_of (shortest (request pdu community id (bound name value ∷ others))) own t) (λ ask. IsOwnWish only load ask.wish)
   other-asks found pdu community id name value others is none own t =
       let binds : List Bind = bound name value ∷ others in
       let text : List ℕ = shortest (request pdu community id binds) in

@@ -1,6 +1,7 @@
 -- A stage that is asked only for parts of loads puts loads in force.
 use Rattle.std.proofs.Common.{◌≡◌, ◌≤◌, ◌+◌, ◌-◌, ◌*◌, ◌==◌, ◌∙◌, if◌then◌else◌, ℕ, Bool, true, false, List, [], ◌∷◌, ◌++◌, length, map, take, drop, Option, Some, None, IfSome, refl, sym, ap, ap₂, subst, arith, take-add, take_all}
 use Rattle.std.specs.List.{AllByRecursion}
+use Rattle.std.proofs.lemmas.Bool.{false≢true}
 use Rattle.std.proofs.lemmas.Bool.Decides.{Decides-eqb}
 use Rattle.sig_types.specs.declared.notes.StageAnswer.{StageAnswer}
 use Rattle.sig_types.specs.declared.notes.StageAnswer.TheVariants.{Staged, Repeated, Verified, Accepted, WrongToken, WrongPart, NotVerified, Refused}
@@ -22,7 +23,7 @@ use Rattle.stage_txn.specs.Laws.{PartsComeInOrder, InstallsWhatKeepsRules}
 use Rattle.cabinet_history.specs.Coming.{Coming, in_force, past_of, is_flashing, carried_out, heeded, coming_from}
 use Rattle.cabinet_history.specs.Downloads.{content_by}
 use Rattle.judged_runs.specs.Loads.{IsLoadIfAny, brought_by, brought}
-use Rattle.judged_runs.specs.Messages.{IsPartOf, IsTotalOf, IsOwnWish, IsOwnItem}
+use Rattle.judged_runs.specs.Messages.{IsPartOf, IsTotalOf, IsFinishOf, IsOwnWish, IsOwnItem}
 
 always : {A : Type 0} (o : Option A) (P : A → Type 0) → ((x : A) → P x) → IfSome o P
 always None P all = tt
@@ -33,24 +34,26 @@ pub record Laws : Type 0 where
   pub parts : (past : List Answered) → PartsComeInOrder past
   pub finish : (past : List Answered) → InstallsWhatKeepsRules past
 
-module _ (load : ℕ → Option (List (Cell × Content))) where
+module _ (only : Bool) (load : ℕ → Option (List (Cell × Content))) where
   -- the cells that were taken are the first ones of the load, and all of them where its parts were verified; what was put in force are loads
   record Own (ds : List Deed) (put : List (ℕ × List (Cell × Content))) : Type 0 where
     content : IfSome (load (kept_by ds)) (λ own. content_by ds ≡ take (24 * taken_by ds) own)
     whole : stage_state_by ds ≡ Checked → IfSome (load (kept_by ds)) (λ own. content_by ds ≡ own)
     loads : AllByRecursion (λ d. IsLoadIfAny (load d.0) d.1) put
+    known : AllByRecursion (λ d. IsFinishOf only (load d.0)) put
 
   opened : Own [] []
-  opened = record { content = always (load 0) (λ own. [] ≡ take (24 * 0) own) (λ own. refl); whole = λ e. cc; loads = tt }
+  opened = record { content = always (load 0) (λ own. [] ≡ take (24 * 0) own) (λ own. refl); whole = λ e. cc; loads = tt; known = tt }
 
   idle : (ds : List Deed) (put : List (ℕ × List (Cell × Content))) → Own ds put → Own (Idle ∷ ds) put
-  idle ds put o = record { content = o.content; whole = o.whole; loads = o.loads }
+  idle ds put o = record { content = o.content; whole = o.whole; loads = o.loads; known = o.known }
 
   begin-own : (id : ℕ) (t : Tables) (a : StageAnswer) (ds : List Deed) (put : List (ℕ × List (Cell × Content))) → Own ds put → Own (begin_deed id t a ∷ ds) put
   begin-own id t Staged ds put o = record {
     content = always (load id) (λ own. [] ≡ take (24 * 0) own) (λ own. refl);
     whole = λ e. cc;
     loads = o.loads;
+    known = o.known;
   }
   begin-own id t Repeated ds put o = idle ds put o
   begin-own id t Verified ds put o = idle ds put o
@@ -79,6 +82,7 @@ module _ (load : ℕ → Option (List (Cell × Content))) where
         content = one-part (load (kept_by ds)) (content_by ds) cells (taken_by ds) o.content facts.1;
         whole = λ e. absurd (let bad : Open ≡ Checked = sym facts.0 ∙ e in cc);
         loads = o.loads;
+        known = o.known;
       }
   part-own cells Repeated ds put is o = idle ds put o
   part-own cells Verified ds put is o = idle ds put o
@@ -103,6 +107,7 @@ module _ (load : ℕ → Option (List (Cell × Content))) where
     content = o.content;
     whole = λ e. all-parts (load (kept_by ds)) (content_by ds) (taken_by ds) o.content (is refl);
     loads = o.loads;
+    known = o.known;
   }
   verify-own Staged ds put is o = idle ds put o
   verify-own Repeated ds put is o = idle ds put o
@@ -118,10 +123,10 @@ module _ (load : ℕ → Option (List (Cell × Content))) where
   is-load None content e = tt
   is-load (Some l) content e = sym e
 
-  finish-own : (id : ℕ) (t : Tables) (flashing : Bool) (a : StageAnswer) (ds : List Deed) (put : List (ℕ × List (Cell × Content)))
+  finish-own : (id : ℕ) (t : Tables) (flashing : Bool) → IsFinishOf only (load id) → (a : StageAnswer) (ds : List Deed) (put : List (ℕ × List (Cell × Content)))
       → (a ≡ Accepted → (id ≡ kept_by ds) × (stage_state_by ds ≡ Checked)) → Own ds put
       → Own (finish_deed a ∷ ds) (brought_by (FinishCall id t flashing) a ds ++ put)
-  finish-own id t flashing Accepted ds put is o =
+  finish-own id t flashing fin Accepted ds put is o =
       let facts = is refl in
       record {
         content = o.content;
@@ -130,14 +135,15 @@ module _ (load : ℕ → Option (List (Cell × Content))) where
           subst (λ (n : ℕ). IsLoadIfAny (load n) (content_by ds)) (sym facts.0) (is-load (load (kept_by ds)) (content_by ds) (o.whole facts.1)),
           o.loads,
         );
+        known = (fin, o.known);
       }
-  finish-own id t flashing (Refused b) ds put is o = record { content = o.content; whole = λ e. cc; loads = o.loads }
-  finish-own id t flashing Staged ds put is o = idle ds put o
-  finish-own id t flashing Repeated ds put is o = idle ds put o
-  finish-own id t flashing Verified ds put is o = idle ds put o
-  finish-own id t flashing WrongToken ds put is o = idle ds put o
-  finish-own id t flashing (WrongPart n) ds put is o = idle ds put o
-  finish-own id t flashing NotVerified ds put is o = idle ds put o
+  finish-own id t flashing fin (Refused b) ds put is o = record { content = o.content; whole = λ e. cc; loads = o.loads; known = o.known }
+  finish-own id t flashing fin Staged ds put is o = idle ds put o
+  finish-own id t flashing fin Repeated ds put is o = idle ds put o
+  finish-own id t flashing fin Verified ds put is o = idle ds put o
+  finish-own id t flashing fin WrongToken ds put is o = idle ds put o
+  finish-own id t flashing fin (WrongPart n) ds put is o = idle ds put o
+  finish-own id t flashing fin NotVerified ds put is o = idle ds put o
 
   -- ---- each call
 
@@ -173,7 +179,7 @@ module _ (load : ℕ → Option (List (Cell × Content))) where
       split false same e = absurd (let bad : WrongToken ≡ Verified = e in cc)
 
   module _ (laws : Laws) where
-    wish-own : (c : Coming) (wish : Wish) → IsOwnWish load wish → OwnPast (answered c.calls) → OwnPast (answered (carried_out c wish).calls)
+    wish-own : (c : Coming) (wish : Wish) → IsOwnWish only load wish → OwnPast (answered c.calls) → OwnPast (answered (carried_out c wish).calls)
     wish-own c (Direct orders) is o = o
     wish-own c (Begin id) is o = begin-own id (in_force c) (answer_to (answered c.calls) (BeginCall id (in_force c))) (deeds (answered c.calls)) (brought (answered c.calls)) o
     wish-own c (Part id number puts) is o =
@@ -190,18 +196,18 @@ module _ (load : ℕ → Option (List (Cell × Content))) where
         subst (λ (k : ℕ). IsTotalOf (load k) (taken_by (deeds (answered c.calls)))) facts.0 (subst (λ (n : ℕ). IsTotalOf (load id) n) facts.1 is))
         o
     wish-own c (Finish id) is o =
-        finish-own id (in_force c) (is_flashing (past_of c)) (answer_to (answered c.calls) (FinishCall id (in_force c) (is_flashing (past_of c)))) (deeds (answered c.calls)) (brought (answered c.calls))
+        finish-own id (in_force c) (is_flashing (past_of c)) is (answer_to (answered c.calls) (FinishCall id (in_force c) (is_flashing (past_of c)))) (deeds (answered c.calls)) (brought (answered c.calls))
         (λ e. let rules = laws.finish (answered c.calls) id (in_force c) (is_flashing (past_of c)) e in (rules.same, rules.stands))
         o
     wish-own c Get is o = o
     wish-own c Next is o = o
     wish-own c (Bad status index) is o = o
 
-    ask-own : (c : Coming) (ask : Option Ask) → IfSome ask (λ a. IsOwnWish load a.wish) → OwnPast (answered c.calls) → OwnPast (answered (heeded c ask).calls)
+    ask-own : (c : Coming) (ask : Option Ask) → IfSome ask (λ a. IsOwnWish only load a.wish) → OwnPast (answered c.calls) → OwnPast (answered (heeded c ask).calls)
     ask-own c (Some ask) is o = wish-own c ask.wish is o
     ask-own c None is o = o
 
-    items-own : (community : List ℕ) (opening : History) (items : List Item) → AllByRecursion (IsOwnItem load community) items
+    items-own : (community : List ℕ) (opening : History) (items : List Item) → AllByRecursion (IsOwnItem only load community) items
         → OwnPast (answered (coming_from community opening items).calls)
     items-own community opening [] all = opened
     items-own community opening (Input field ∷ items) all = items-own community opening items all.1
@@ -211,6 +217,21 @@ module _ (load : ℕ → Option (List (Cell × Content))) where
     items-own community opening (Ticked ∷ items) all = items-own community opening items all.1
 
     -- what is put in force has the cells of loads
-    pub loads-own : (community : List ℕ) (opening : History) (items : List Item) → AllByRecursion (IsOwnItem load community) items
+    pub loads-own : (community : List ℕ) (opening : History) (items : List Item) → AllByRecursion (IsOwnItem only load community) items
         → AllByRecursion (λ d. IsLoadIfAny (load d.0) d.1) (brought (answered (coming_from community opening items).calls))
     loads-own community opening items all = (items-own community opening items all).loads
+
+    -- and, if that is required, is a load
+    pub loads-known : (community : List ℕ) (opening : History) (items : List Item) → AllByRecursion (IsOwnItem only load community) items
+        → AllByRecursion (λ d. IsFinishOf only (load d.0)) (brought (answered (coming_from community opening items).calls))
+    loads-known community opening items all = (items-own community opening items all).known
+
+-- a download that has the cells of its load, if any, and a load, is that load
+one-load : (own : Option (List (Cell × Content))) (cells : List (Cell × Content)) → IsLoadIfAny own cells → IsFinishOf true own → own ≡ Some cells
+one-load None cells is some = absurd (false≢true some)
+one-load (Some l) cells is some = ap (λ (x : List (Cell × Content)). Some x) is
+
+pub all-loads : (load : ℕ → Option (List (Cell × Content))) (ds : List (ℕ × List (Cell × Content))) → AllByRecursion (λ d. IsLoadIfAny (load d.0) d.1) ds
+    → AllByRecursion (λ d. IsFinishOf true (load d.0)) ds → AllByRecursion (λ d. load d.0 ≡ Some d.1) ds
+all-loads load [] own known = tt
+all-loads load (d ∷ ds) own known = (one-load (load d.0) d.1 own.0 known.0, all-loads load ds own.1 known.1)

@@ -1,8 +1,8 @@
 -- The master and the scenario's requests ask only for parts of loads.
-use Rattle.std.proofs.Common.{◌≡◌, ◌<◌, ◌≤◌, ◌+◌, ◌-◌, ◌*◌, ◌==◌, ◌&&◌, nat_lt, nat_le, if◌then◌else◌, ℕ, zero, suc, ℤ, pos, Bool, true, false, List, [], ◌∷◌, length, map, take, drop, Option, Some, None, IfSome, slice_get, refl, sym, subst, arith, option_map}
+use Rattle.std.proofs.Common.{◌≡◌, ◌<◌, ◌≤◌, ◌+◌, ◌-◌, ◌*◌, ◌==◌, ◌&&◌, nat_lt, nat_le, if◌then◌else◌, ℕ, zero, suc, ℤ, pos, Bool, true, false, List, [], ◌∷◌, length, map, take, drop, Option, Some, None, IfSome, is_some, slice_get, refl, sym, ap, subst, arith, option_map}
 use Rattle.std.specs.List.{AllByRecursion}
 use Rattle.std.specs.Option.{option_to_list}
-use Rattle.std.proofs.lemmas.Bool.{ltb-true}
+use Rattle.std.proofs.lemmas.Bool.{ltb-true, lt-ltb, ne_eqb, and_parts, and_from}
 use Rattle.sig_tables.specs.declared.tables.Tables.{Tables}
 use Rattle.sig_tables.specs.declared.cells.Cell.{Cell}
 use Rattle.sig_tables.specs.Cells.{Content}
@@ -35,7 +35,7 @@ use Rattle.link_sim.proofs.Fits.{act_fits}
 use Rattle.agent.specs.Asks.{ask_of, Asks}
 use Rattle.sig_types.specs.Items.{Came}
 use Rattle.judge_session.specs.Told.{load_told}
-use Rattle.judged_runs.specs.Messages.{IsPartOf, IsTotalOf, IsOwnItem}
+use Rattle.judged_runs.specs.Messages.{IsPartOf, IsTotalOf, IsFinishOf, IsOwnItem}
 use Rattle.judged_runs.proofs.Peeling.{IsClear, tagged-request}
 use Rattle.judged_runs.proofs.Asking.{number-clear, cells-clear, load-asks, other-asks}
 
@@ -92,6 +92,7 @@ IsStep _ = Unit {0}
 record IsGood (loads : List LoadContent) (cab : ℕ) (frame : LoadFrame) : Type 0 where
   own : frame.cab ≡ cab
   few : frame.load ≤ length loads
+  some : nat_lt 0 frame.load && is_some (load_at (loads_of cab loads) frame.load) ≡ true
   step : IsStep frame.step
 
 module _ (loads : List LoadContent) (cab : ℕ) (are : AreLoads loads) where
@@ -106,18 +107,18 @@ module _ (loads : List LoadContent) (cab : ℕ) (are : AreLoads loads) where
           within = found-within (loads_of cab loads) (begun + 1 - 1) l e
 
           split : (b : Bool) → IfSome (if b then Some (frame_of cab (begun + 1) id step.Begin) else None) (IsGood loads cab)
-          split true = record { own = refl; few = (let l : length (loads_of cab loads) ≤ length loads = fewer-loads cab loads in omega (arith, within, l)); step = tt }
+          split true = record { own = refl; few = (let l : length (loads_of cab loads) ≤ length loads = fewer-loads cab loads in omega (arith, within, l)); some = and_from (nat_lt 0 (begun + 1)) (is_some (load_at (loads_of cab loads) (begun + 1))) (lt-ltb 0 (begun + 1) (omega arith)) (ap is_some e); step = tt }
           split false = tt
 
-  after-good : (round : ℕ) (id : ℤ) (n parts : ℕ) (at : Step) → n ≤ length loads → parts ≤ 100 → IfSome (go_on loads cab round id n (step_after parts at)) (IsGood loads cab)
-  after-good round id n parts step.Begin few small = record { own = refl; few = few; step = omega arith }
-  after-good round id n parts (step.Part k) few small = split (nat_lt k parts) refl
+  after-good : (round : ℕ) (id : ℤ) (n parts : ℕ) (at : Step) → n ≤ length loads → nat_lt 0 n && is_some (load_at (loads_of cab loads) n) ≡ true → parts ≤ 100 → IfSome (go_on loads cab round id n (step_after parts at)) (IsGood loads cab)
+  after-good round id n parts step.Begin few some small = record { own = refl; few = few; some = some; step = omega arith }
+  after-good round id n parts (step.Part k) few some small = split (nat_lt k parts) refl
     where
       split : (b : Bool) → nat_lt k parts ≡ b → IfSome (go_on loads cab round id n (if b then Some (step.Part (k + 1)) else Some step.Verify)) (IsGood loads cab)
-      split true e = record { own = refl; few = few; step = (let l : k < parts = ltb-true k parts e in omega (arith, l, small)) }
-      split false e = record { own = refl; few = few; step = tt }
-  after-good round id n parts step.Verify few small = record { own = refl; few = few; step = tt }
-  after-good round id n parts step.Finish few small = begin-good round id n
+      split true e = record { own = refl; few = few; some = some; step = (let l : k < parts = ltb-true k parts e in omega (arith, l, small)) }
+      split false e = record { own = refl; few = few; some = some; step = tt }
+  after-good round id n parts step.Verify few some small = record { own = refl; few = few; some = some; step = tt }
+  after-good round id n parts step.Finish few some small = begin-good round id n
 
   parts-few : (n : ℕ) → parts_for (length (cells_of (loads_of cab loads) n)) ≤ 100
   parts-few n =
@@ -127,14 +128,14 @@ module _ (loads : List LoadContent) (cab : ℕ) (are : AreLoads loads) where
   go-good : (round : ℕ) (id : ℤ) (last : Option LoadFrame) (m : Option Message) → IfSome last (IsGood loads cab)
       → IfSome (go_on loads cab round id (begun_by last) (step_due loads cab last m)) (IsGood loads cab)
   go-good round id None m good = begin-good round id 0
-  go-good round id (Some frame) None good = record { own = refl; few = good.few; step = good.step }
+  go-good round id (Some frame) None good = record { own = refl; few = good.few; some = good.some; step = good.step }
   go-good round id (Some frame) (Some m) good = split (is_good m)
     where
       parts : ℕ
       parts = parts_for (length (cells_of (loads_of cab loads) frame.load))
 
       split : (b : Bool) → IfSome (go_on loads cab round id frame.load (if b then step_after parts frame.step else None)) (IsGood loads cab)
-      split true = after-good round id frame.load parts frame.step good.few (parts-few frame.load)
+      split true = after-good round id frame.load parts frame.step good.few good.some (parts-few frame.load)
       split false = begin-good round id frame.load
 
   next-good : (round : ℕ) (id : ℤ) (past : List LoadEvent) → IfSome (last_frame past) (IsGood loads cab) → IfSome (next_frame loads cab round id past) (IsGood loads cab)
@@ -166,47 +167,6 @@ turns-good s cab c (a ∷ arrived) are =
     let now : IfSome turn.frame (IsGood s.loads cab) = next-good s.loads cab are (length past + 1) _ (told turn.loads (load_events past)) heard in
     (now, with-good s.loads cab are turn.frame (told turn.loads (load_events past)) now heard)
 
--- ---- what they ask
-
--- a text is one of a message, and asks for nothing else under the number of a load
-pub record IsOwnText (s : ScenarioContent) (cab : ℕ) (text : List ℕ) : Type 0 where
-  pub content : List ℕ
-  pub tagged : IsTagged 48 text content
-  pub own : IsOwnItem (load_told s cab) s.community (Came text)
-
-abbrev Found : Type 0
-Found = (frame community : List ℕ) (t : Tables) → IfSome (ask_of frame community t) (Asks frame community t)
-
-own-part : (s : ScenarioContent) (cab n k : ℕ) → IsPartOf (load_told s cab n) k (part_cells (cells_of (loads_of cab s.loads) n) k)
-own-part s cab n k = split (n == 0) (slice_get (loads_of cab s.loads) (n - 1))
-  where
-    split : (b : Bool) (o : Option LoadContent) → IsPartOf (if b then None else option_map (λ l. l.cells) o) k (part_cells (cells_in o) k)
-    split true o = tt
-    split false None = tt
-    split false (Some l) = refl
-
-own-total : (s : ScenarioContent) (cab n : ℕ) → IsTotalOf (load_told s cab n) (parts_for (length (cells_of (loads_of cab s.loads) n)))
-own-total s cab n = split (n == 0) (slice_get (loads_of cab s.loads) (n - 1))
-  where
-    split : (b : Bool) (o : Option LoadContent) → IsTotalOf (if b then None else option_map (λ l. l.cells) o) (parts_for (length (cells_in o)))
-    split true o = tt
-    split false None = tt
-    split false (Some l) = refl
-
-steps-clear : (n : ℕ) (cells : List (Cell × Content)) (at : Step) → n < 2147483648 → IsStep at → AreFew cells → AllByRecursion IsClear (step_binds n cells at)
-steps-clear n cells step.Begin small is few = (number-clear (Txn 2) n (omega arith, omega arith) small, tt)
-steps-clear n cells (step.Part k) small is few = (
-  number-clear (Txn 3) n (omega arith, omega arith) small,
-  (
-    number-clear (Txn 4) k (omega arith, omega arith) (let l : k ≤ 100 = is in omega (arith, l)),
-    cells-clear (part_cells cells k) (taken 24 (drop (24 * (k - 1)) cells) (dropped (24 * (k - 1)) cells few.1)),
-  ),
-)
-steps-clear n cells step.Verify small is few =
-    (number-clear (Txn 3) n (omega arith, omega arith) small, (number-clear (Txn 5) (parts_for (length cells)) (omega arith, omega arith) (let l : length cells ≤ 768 = few.0 in omega (arith, l)), tt))
-steps-clear n cells step.Finish small is few =
-    (number-clear (Txn 3) n (omega arith, omega arith) small, (number-clear (Txn 6) 1 (omega arith, omega arith) (omega arith), tt))
-
 -- what is known of the scenario
 pub record Sound (s : ScenarioContent) : Type 0 where
   pub found : (frame community : List ℕ) (t : Tables) → IfSome (ask_of frame community t) (Asks frame community t)
@@ -214,74 +174,136 @@ pub record Sound (s : ScenarioContent) : Type 0 where
   pub few : length s.loads ≤ 6400
   pub short : length s.community ≤ 32
 
-frame-own : (s : ScenarioContent) (cab : ℕ) (frame : LoadFrame) → Sound s → IsGood s.loads cab frame → IsOwnText s cab (frame_text s.community s.loads frame)
-frame-own s cab frame sound good =
-    let cells : List (Cell × Content) = cells_of (loads_of frame.cab s.loads) frame.load in
-    let few : AreFew cells = at-load (loads_of frame.cab s.loads) (frame.load - 1) (kept-loads frame.cab s.loads sound.loads) in
-    let small : frame.load < 2147483648 = let a : frame.load ≤ length s.loads = good.few in let b : length s.loads ≤ 6400 = sound.few in omega (arith, a, b) in
-    let tagged = tagged-request Set s.community frame.id (step_binds frame.load cells frame.step) (frame_fits s.community s.loads frame sound.short sound.loads) in
-    record {
-      content = tagged.0;
-      tagged = tagged.1;
-      own = load-asks (load_told s cab) sound.found s.community frame.id frame.load cells frame.step
-          (steps-clear frame.load cells frame.step small good.step few)
-          (λ k. taken 24 (drop (24 * (k - 1)) cells) (dropped (24 * (k - 1)) cells few.1))
-          (λ k. subst (λ (n : ℕ). IsPartOf (load_told s cab frame.load) k (part_cells (cells_of (loads_of n s.loads) frame.load) k)) (sym good.own) (own-part s cab frame.load k))
-          (subst (λ (n : ℕ). IsTotalOf (load_told s cab frame.load) (parts_for (length (cells_of (loads_of n s.loads) frame.load)))) (sym good.own) (own-total s cab frame.load))
-          s.community;
-    }
+-- ---- what they ask
 
-task-own : (s : ScenarioContent) (cab : ℕ) (id : ℤ) (task : Task) → Sound s → IsOwnText s cab (task_text s.community id task)
-task-own s cab id (PatternTask n) sound =
-    let tagged = tagged-request Set s.community id (number_at PatternControl n ∷ []) (pattern_fits s.community id n (number_at PatternControl n ∷ []) sound.short refl) in
-    record { content = tagged.0; tagged = tagged.1; own = other-asks (load_told s cab) sound.found Set s.community id PatternControl (Int (pos n)) [] tt refl s.community }
-task-own s cab id (ClockTask time) sound =
-    let tagged = tagged-request Set s.community id (number_at ClockName time ∷ []) (clock_fits s.community id time (number_at ClockName time ∷ []) sound.short refl) in
-    record { content = tagged.0; tagged = tagged.1; own = other-asks (load_told s cab) sound.found Set s.community id ClockName (Int (pos time)) [] tt refl s.community }
-task-own s cab id PollTask sound =
-    let tagged = tagged-request Get s.community id (map asked_for polled) (poll_fits s.community id (map asked_for polled) sound.short refl) in
-    record { content = tagged.0; tagged = tagged.1; own = other-asks (load_told s cab) sound.found Get s.community id PatternStatus Null (map asked_for (Counter ∷ Target ∷ ModeCode ∷ Txn 10 ∷ Group 4 1 ∷ Group 4 2 ∷ PatternControl ∷ [])) tt refl s.community }
+module _ (only : Bool) where
+  -- a text is one of a message, and asks for nothing else under the number of a load
+  pub record IsOwnText (s : ScenarioContent) (cab : ℕ) (text : List ℕ) : Type 0 where
+    pub content : List ℕ
+    pub tagged : IsTagged 48 text content
+    pub own : IsOwnItem only (load_told s cab) s.community (Came text)
 
-act-own : (s : ScenarioContent) (cab id : ℕ) (act : PriorityAct) → Sound s → IsOwnText s cab (set_text s.community (pos id) (act_bind act ∷ []))
-act-own s cab id (AskRequest r) sound =
-    let tagged = tagged-request Set s.community (pos id) (act_bind (AskRequest r) ∷ []) (act_fits s.community (pos id) (AskRequest r) (act_bind (AskRequest r) ∷ []) sound.short refl) in
-    record { content = tagged.0; tagged = tagged.1; own = other-asks (load_told s cab) sound.found Set s.community (pos id) RequestName (act_bind (AskRequest r)).value [] tt refl s.community }
-act-own s cab id (Cancel number) sound =
-    let tagged = tagged-request Set s.community (pos id) (act_bind (Cancel number) ∷ []) (act_fits s.community (pos id) (Cancel number) (act_bind (Cancel number) ∷ []) sound.short refl) in
-    record { content = tagged.0; tagged = tagged.1; own = other-asks (load_told s cab) sound.found Set s.community (pos id) CancelName (act_bind (Cancel number)).value [] tt refl s.community }
+  abbrev Found : Type 0
+  Found = (frame community : List ℕ) (t : Tables) → IfSome (ask_of frame community t) (Asks frame community t)
 
--- ---- all that is sent
+  own-part : (s : ScenarioContent) (cab n k : ℕ) → IsPartOf (load_told s cab n) k (part_cells (cells_of (loads_of cab s.loads) n) k)
+  own-part s cab n k = split (n == 0) (slice_get (loads_of cab s.loads) (n - 1))
+    where
+      split : (b : Bool) (o : Option LoadContent) → IsPartOf (if b then None else option_map (λ l. l.cells) o) k (part_cells (cells_in o) k)
+      split true o = tt
+      split false None = tt
+      split false (Some l) = refl
 
-pub last-poll : (s : ScenarioContent) (cab : ℕ) (past : List Turn) → Sound s → AllByRecursion (IsOwnText s cab) (option_to_list (last_sending s past).poll)
-last-poll s cab [] sound = tt
-last-poll s cab (t ∷ past) sound = one t.command
-  where
-    one : (o : Option Command) → AllByRecursion (IsOwnText s cab) (option_to_list (option_map (command_text s.community) o))
-    one None = tt
-    one (Some c) = (task-own s cab c.id c.task sound, tt)
+  own-total : (s : ScenarioContent) (cab n : ℕ) → IsTotalOf (load_told s cab n) (parts_for (length (cells_of (loads_of cab s.loads) n)))
+  own-total s cab n = split (n == 0) (slice_get (loads_of cab s.loads) (n - 1))
+    where
+      split : (b : Bool) (o : Option LoadContent) → IsTotalOf (if b then None else option_map (λ l. l.cells) o) (parts_for (length (cells_in o)))
+      split true o = tt
+      split false None = tt
+      split false (Some l) = refl
 
-pub last-load : (s : ScenarioContent) (cab : ℕ) (c : CabinetContent) (arrived : List Arrived) → Sound s
-    → AllByRecursion (IsOwnText s cab) (option_to_list (last_sending s (turns s cab c arrived)).load)
-last-load s cab c [] sound = tt
-last-load s cab c (a ∷ arrived) sound =
-    one (turn_after s cab c a (turns s cab c arrived)).frame (turns-good s cab c (a ∷ arrived) sound.loads).0
-  where
-    one : (o : Option LoadFrame) → IfSome o (IsGood s.loads cab) → AllByRecursion (IsOwnText s cab) (option_to_list (option_map (frame_text s.community s.loads) o))
-    one None good = tt
-    one (Some frame) good = (frame-own s cab frame sound good, tt)
+  own-finish : (s : ScenarioContent) (cab n : ℕ) → nat_lt 0 n && is_some (load_at (loads_of cab s.loads) n) ≡ true → IsFinishOf only (load_told s cab n)
+  own-finish s cab n e = required only
+    where
+      both : (nat_lt 0 n ≡ true) × (is_some (load_at (loads_of cab s.loads) n) ≡ true)
+      both = and_parts (nat_lt 0 n) (is_some (load_at (loads_of cab s.loads) n)) e
 
-priority-own : (s : ScenarioContent) (cab round id : ℕ) (items : List PriorityItem) → Sound s → AllByRecursion (IsOwnText s cab) (priority_from s.community round cab id items)
-priority-own s cab round id [] sound = tt
-priority-own s cab round id (p ∷ items) sound = split ((p.round == round) && (p.cabinet == cab)) (priority-own s cab round (id + 1) items sound)
-  where
-    others : List (List ℕ)
-    others = priority_from s.community round cab (id + 1) items
+      some : is_some (load_told s cab n) ≡ true
+      some =
+          let zero : (n == 0) ≡ false = ne_eqb n 0 (λ z. absurd (let l : 0 < n = ltb-true 0 n both.0 in omega (arith, l, z))) in
+          rw zero (has (load_at (loads_of cab s.loads) n) both.1)
+        where
+          has : (o : Option LoadContent) → is_some o ≡ true → is_some (option_map (λ l. l.cells) o) ≡ true
+          has None e = e
+          has (Some l) e = refl
 
-    split : (b : Bool) → AllByRecursion (IsOwnText s cab) others
-        → AllByRecursion (IsOwnText s cab) (if b then set_text s.community (pos id) (act_bind p.act ∷ []) ∷ others else others)
-    split true rest = (act-own s cab id p.act sound, rest)
-    split false rest = rest
+      required : (b : Bool) → IsFinishOf b (load_told s cab n)
+      required true = some
+      required false = tt
 
-pub requested-own : (s : ScenarioContent) (cab rounds : ℕ) → Sound s → AllByRecursion (AllByRecursion (IsOwnText s cab)) (requested s cab rounds)
-requested-own s cab zero sound = tt
-requested-own s cab (suc rounds) sound = (priority-own s cab (rounds + 1) 2000000000 s.priority sound, requested-own s cab rounds sound)
+  steps-clear : (n : ℕ) (cells : List (Cell × Content)) (at : Step) → n < 2147483648 → IsStep at → AreFew cells → AllByRecursion IsClear (step_binds n cells at)
+  steps-clear n cells step.Begin small is few = (number-clear (Txn 2) n (omega arith, omega arith) small, tt)
+  steps-clear n cells (step.Part k) small is few = (
+    number-clear (Txn 3) n (omega arith, omega arith) small,
+    (
+      number-clear (Txn 4) k (omega arith, omega arith) (let l : k ≤ 100 = is in omega (arith, l)),
+      cells-clear (part_cells cells k) (taken 24 (drop (24 * (k - 1)) cells) (dropped (24 * (k - 1)) cells few.1)),
+    ),
+  )
+  steps-clear n cells step.Verify small is few =
+      (number-clear (Txn 3) n (omega arith, omega arith) small, (number-clear (Txn 5) (parts_for (length cells)) (omega arith, omega arith) (let l : length cells ≤ 768 = few.0 in omega (arith, l)), tt))
+  steps-clear n cells step.Finish small is few =
+      (number-clear (Txn 3) n (omega arith, omega arith) small, (number-clear (Txn 6) 1 (omega arith, omega arith) (omega arith), tt))
+
+  frame-own : (s : ScenarioContent) (cab : ℕ) (frame : LoadFrame) → Sound s → IsGood s.loads cab frame → IsOwnText s cab (frame_text s.community s.loads frame)
+  frame-own s cab frame sound good =
+      let cells : List (Cell × Content) = cells_of (loads_of frame.cab s.loads) frame.load in
+      let few : AreFew cells = at-load (loads_of frame.cab s.loads) (frame.load - 1) (kept-loads frame.cab s.loads sound.loads) in
+      let small : frame.load < 2147483648 = let a : frame.load ≤ length s.loads = good.few in let b : length s.loads ≤ 6400 = sound.few in omega (arith, a, b) in
+      let tagged = tagged-request Set s.community frame.id (step_binds frame.load cells frame.step) (frame_fits s.community s.loads frame sound.short sound.loads) in
+      record {
+        content = tagged.0;
+        tagged = tagged.1;
+        own = load-asks only (load_told s cab) sound.found s.community frame.id frame.load cells frame.step
+            (steps-clear frame.load cells frame.step small good.step few)
+            (λ k. taken 24 (drop (24 * (k - 1)) cells) (dropped (24 * (k - 1)) cells few.1))
+            (λ k. subst (λ (n : ℕ). IsPartOf (load_told s cab frame.load) k (part_cells (cells_of (loads_of n s.loads) frame.load) k)) (sym good.own) (own-part s cab frame.load k))
+            (subst (λ (n : ℕ). IsTotalOf (load_told s cab frame.load) (parts_for (length (cells_of (loads_of n s.loads) frame.load)))) (sym good.own) (own-total s cab frame.load))
+            (own-finish s cab frame.load good.some)
+            s.community;
+      }
+
+  task-own : (s : ScenarioContent) (cab : ℕ) (id : ℤ) (task : Task) → Sound s → IsOwnText s cab (task_text s.community id task)
+  task-own s cab id (PatternTask n) sound =
+      let tagged = tagged-request Set s.community id (number_at PatternControl n ∷ []) (pattern_fits s.community id n (number_at PatternControl n ∷ []) sound.short refl) in
+      record { content = tagged.0; tagged = tagged.1; own = other-asks only (load_told s cab) sound.found Set s.community id PatternControl (Int (pos n)) [] tt refl s.community }
+  task-own s cab id (ClockTask time) sound =
+      let tagged = tagged-request Set s.community id (number_at ClockName time ∷ []) (clock_fits s.community id time (number_at ClockName time ∷ []) sound.short refl) in
+      record { content = tagged.0; tagged = tagged.1; own = other-asks only (load_told s cab) sound.found Set s.community id ClockName (Int (pos time)) [] tt refl s.community }
+  task-own s cab id PollTask sound =
+      let tagged = tagged-request Get s.community id (map asked_for polled) (poll_fits s.community id (map asked_for polled) sound.short refl) in
+      record { content = tagged.0; tagged = tagged.1; own = other-asks only (load_told s cab) sound.found Get s.community id PatternStatus Null (map asked_for (Counter ∷ Target ∷ ModeCode ∷ Txn 10 ∷ Group 4 1 ∷ Group 4 2 ∷ PatternControl ∷ [])) tt refl s.community }
+
+  act-own : (s : ScenarioContent) (cab id : ℕ) (act : PriorityAct) → Sound s → IsOwnText s cab (set_text s.community (pos id) (act_bind act ∷ []))
+  act-own s cab id (AskRequest r) sound =
+      let tagged = tagged-request Set s.community (pos id) (act_bind (AskRequest r) ∷ []) (act_fits s.community (pos id) (AskRequest r) (act_bind (AskRequest r) ∷ []) sound.short refl) in
+      record { content = tagged.0; tagged = tagged.1; own = other-asks only (load_told s cab) sound.found Set s.community (pos id) RequestName (act_bind (AskRequest r)).value [] tt refl s.community }
+  act-own s cab id (Cancel number) sound =
+      let tagged = tagged-request Set s.community (pos id) (act_bind (Cancel number) ∷ []) (act_fits s.community (pos id) (Cancel number) (act_bind (Cancel number) ∷ []) sound.short refl) in
+      record { content = tagged.0; tagged = tagged.1; own = other-asks only (load_told s cab) sound.found Set s.community (pos id) CancelName (act_bind (Cancel number)).value [] tt refl s.community }
+
+  -- ---- all that is sent
+
+  pub last-poll : (s : ScenarioContent) (cab : ℕ) (past : List Turn) → Sound s → AllByRecursion (IsOwnText s cab) (option_to_list (last_sending s past).poll)
+  last-poll s cab [] sound = tt
+  last-poll s cab (t ∷ past) sound = one t.command
+    where
+      one : (o : Option Command) → AllByRecursion (IsOwnText s cab) (option_to_list (option_map (command_text s.community) o))
+      one None = tt
+      one (Some c) = (task-own s cab c.id c.task sound, tt)
+
+  pub last-load : (s : ScenarioContent) (cab : ℕ) (c : CabinetContent) (arrived : List Arrived) → Sound s
+      → AllByRecursion (IsOwnText s cab) (option_to_list (last_sending s (turns s cab c arrived)).load)
+  last-load s cab c [] sound = tt
+  last-load s cab c (a ∷ arrived) sound =
+      one (turn_after s cab c a (turns s cab c arrived)).frame (turns-good s cab c (a ∷ arrived) sound.loads).0
+    where
+      one : (o : Option LoadFrame) → IfSome o (IsGood s.loads cab) → AllByRecursion (IsOwnText s cab) (option_to_list (option_map (frame_text s.community s.loads) o))
+      one None good = tt
+      one (Some frame) good = (frame-own s cab frame sound good, tt)
+
+  priority-own : (s : ScenarioContent) (cab round id : ℕ) (items : List PriorityItem) → Sound s → AllByRecursion (IsOwnText s cab) (priority_from s.community round cab id items)
+  priority-own s cab round id [] sound = tt
+  priority-own s cab round id (p ∷ items) sound = split ((p.round == round) && (p.cabinet == cab)) (priority-own s cab round (id + 1) items sound)
+    where
+      others : List (List ℕ)
+      others = priority_from s.community round cab (id + 1) items
+
+      split : (b : Bool) → AllByRecursion (IsOwnText s cab) others
+          → AllByRecursion (IsOwnText s cab) (if b then set_text s.community (pos id) (act_bind p.act ∷ []) ∷ others else others)
+      split true rest = (act-own s cab id p.act sound, rest)
+      split false rest = rest
+
+  pub requested-own : (s : ScenarioContent) (cab rounds : ℕ) → Sound s → AllByRecursion (AllByRecursion (IsOwnText s cab)) (requested s cab rounds)
+  requested-own s cab zero sound = tt
+  requested-own s cab (suc rounds) sound = (priority-own s cab (rounds + 1) 2000000000 s.priority sound, requested-own s cab rounds sound)

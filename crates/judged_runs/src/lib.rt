@@ -3,7 +3,7 @@
 //! bodies: their contracts are the laws.
 #![tactic(auto)]
 
-ghost use Rattle.std.specs.Prelude.{◌≡◌, ℕ, List, [], ◌∷◌, reverse};
+ghost use Rattle.std.specs.Prelude.{◌≡◌, ℕ, Bool, false, true, List, [], ◌∷◌, reverse};
 ghost use Rattle.scenario_data.specs.Content.{ScenarioContent};
 ghost use Rattle.runnable.specs.Runnable.{Runnable};
 ghost use Rattle.run_definition.specs.Lines.{rest_lines, run_lines};
@@ -14,7 +14,7 @@ ghost use Rattle.judge_laws.specs.Breaches.{exact, breach_at};
 ghost use Rattle.judge_session.specs.Report.{log_found};
 ghost use Rattle.run_definition.specs.Smallest.{smallest};
 ghost use Rattle.stage_txn.specs.Answers.{answered};
-ghost use Rattle.judged_runs.specs.Loads.{brought, LoadsAreOwn};
+ghost use Rattle.judged_runs.specs.Loads.{brought, LoadsAreOwn, AllAreLoads};
 ghost use Rattle.judged_runs.specs.Messages.{IsPlainLink, MessagesAreOwn};
 ghost use Rattle.judged_runs.specs.Rows.{yellow, one_download, both_green, seventh, disguised};
 ghost use Rattle.judged_runs.specs.Faultless.{IsFaultless, TraceIsFaultless};
@@ -47,19 +47,23 @@ pub fn traces_show_no_breach()
 }
 
 /// The condition holds if each message that reaches a cabinet, and names the number of a load, asks for a part of that load or for its
-/// number of parts: however messages are lost, repeated, delayed or mixed with others.
+/// number of parts: however messages are lost, repeated, delayed or mixed with others. If they finish only loads, each download was a
+/// load.
 pub fn own_messages_bring_own_loads()
-    ensures { (s : ScenarioContent) (journals : List (List (List ℕ))) → MessagesAreOwn s journals → LoadsAreOwn s journals }
+    ensures own { (s : ScenarioContent) (journals : List (List (List ℕ))) → MessagesAreOwn false s journals → LoadsAreOwn s journals }
+    ensures loads { (s : ScenarioContent) (journals : List (List (List ℕ))) → MessagesAreOwn true s journals → AllAreLoads s journals }
 {
     parts_come_in_order();
     installs_what_keeps_the_rules();
 }
 
 /// It holds for every run of a scenario whose link changes no octet of a message to a cabinet, and whose messages of other software ask
-/// for no other cells under the number of a load. So in all these runs no line shows a breach.
+/// for no other cells under the number of a load: so no line of such a run shows a breach. If they finish no other download, the tables
+/// are known throughout.
 pub fn plain_links_bring_own_loads()
-    ensures messages { (s : ScenarioContent) → Runnable s → IsPlainLink s → (journals : List (List (List ℕ))) → MessagesAreOwn s journals }
-    ensures loads { (s : ScenarioContent) → Runnable s → IsPlainLink s → (journals : List (List (List ℕ))) → LoadsAreOwn s journals }
+    ensures messages { (only : Bool) (s : ScenarioContent) → Runnable s → IsPlainLink only s → (journals : List (List (List ℕ))) → MessagesAreOwn only s journals }
+    ensures own { (s : ScenarioContent) → Runnable s → IsPlainLink false s → (journals : List (List (List ℕ))) → LoadsAreOwn s journals }
+    ensures loads { (s : ScenarioContent) → Runnable s → IsPlainLink true s → (journals : List (List (List ℕ))) → AllAreLoads s journals }
 {
     frames_ask_one_thing();
     own_messages_bring_own_loads();
