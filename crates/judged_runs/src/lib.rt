@@ -25,10 +25,10 @@ use run_definition::any_order_is_safe;
 use stage_txn::{installs_what_keeps_the_rules, parts_come_in_order};
 use trace_laws::{lines_are_proper, traces_are_safe};
 
-/// For every order in which the items of a run arrive at its cabinets: at each cabinet, the ticks of its lines rise and its versions
-/// are whole; and no line shows a breach, to the tick, as far as the loads that the lines name are loads of the scenario. This holds
-/// if no download came under the number of a load with other cells, as a message of `frames` or a changed octet can bring it. If each
-/// download was a load of the scenario, no line at all shows a breach.
+/// For every order in which the items of a run arrive at its cabinets: after the first line, which has the scenario, its lines are a log
+/// that the judge accepts, since at each cabinet the ticks rise and the versions are whole. No line shows a breach, to the tick, as far
+/// as the loads that the lines name are loads of the scenario, if no download came under the number of a load with other cells, as a
+/// message of `frames` or a changed octet can bring it. If each download was a load, the tables are known throughout.
 pub fn runs_show_no_breach()
     ensures { (s : ScenarioContent) → Runnable s → (journals : List (List (List ℕ))) → AreJournals s journals
         → IsFaultless s journals (run_lines s journals) }
