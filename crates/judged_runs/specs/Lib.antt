@@ -1,0 +1,4 @@
+pub mod Loads
+pub mod Messages
+pub mod Rows
+pub mod Faultless
