@@ -1,0 +1,4 @@
+pub mod Told
+pub mod Log
+pub mod Report
+pub mod Standing
