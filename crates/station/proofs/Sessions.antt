@@ -15,7 +15,7 @@ use Rattle.session_laws.specs.Dialogue.{answer_text, answers_text, dot, requests
 use Rattle.live_session.specs.declared.session.Session.{Session}
 use Rattle.live_session.specs.Standing.{SessionStands}
 use Rattle.station.specs.declared.status.Status.{Status}
-use Rattle.station.specs.declared.status.Status.TheVariants.{Done, Usage, Scenario, NotATrace, Overlap as BrokenOverlap, ReadFault, WriteFault, NoMemory}
+use Rattle.station.specs.declared.status.Status.TheVariants.{Done, Usage, Scenario, NotATrace, Overlap as BrokenOverlap, Unsafe, NotALog, ReadFault, WriteFault, NoMemory}
 use Rattle.session_laws.specs.Laws.{SessionIsRun}
 use Rattle.station.specs.Io.{io}
 use Rattle.station.specs.Answers.{WritesText}
@@ -249,6 +249,8 @@ told_ends Usage text unread failed unwritten left old mid new s other since told
 told_ends (Scenario refusal) text unread failed unwritten left old mid new s other since told short = absurd told
 told_ends (NotATrace fault) text unread failed unwritten left old mid new s other since told short = absurd told
 told_ends (BrokenOverlap fault) text unread failed unwritten left old mid new s other since told short = absurd told
+told_ends Unsafe text unread failed unwritten left old mid new s other since told short = absurd told
+told_ends (NotALog fault) text unread failed unwritten left old mid new s other since told short = absurd told
 told_ends ReadFault text unread failed unwritten left old mid new s other since told short = absurd told
 told_ends WriteFault text unread failed unwritten left old mid new s other since told short = (since told.0, short told.1)
 told_ends NoMemory text unread failed unwritten left old mid new s other since told short = absurd told
@@ -276,6 +278,8 @@ opening_stops Usage text failed old new s other same told = absurd told
 opening_stops (Scenario refusal) text failed old new s other same told = absurd told
 opening_stops (NotATrace fault) text failed old new s other same told = absurd told
 opening_stops (BrokenOverlap fault) text failed old new s other same told = absurd told
+opening_stops Unsafe text failed old new s other same told = absurd told
+opening_stops (NotALog fault) text failed old new s other same told = absurd told
 opening_stops ReadFault text failed old new s other same told = absurd told
 opening_stops WriteFault text failed old new s other same told = (told.0, subst (λ (t : List ℕ). AppendsFront old new t) same told.1)
 opening_stops NoMemory text failed old new s other same told = absurd told
@@ -310,6 +314,8 @@ opening_lived Usage left ends behind old new unread unwritten s opened stops = a
 opening_lived (Scenario refusal) left ends behind old new unread unwritten s opened stops = absurd stops
 opening_lived (NotATrace fault) left ends behind old new unread unwritten s opened stops = absurd stops
 opening_lived (BrokenOverlap fault) left ends behind old new unread unwritten s opened stops = absurd stops
+opening_lived Unsafe left ends behind old new unread unwritten s opened stops = absurd stops
+opening_lived (NotALog fault) left ends behind old new unread unwritten s opened stops = absurd stops
 opening_lived ReadFault left ends behind old new unread unwritten s opened stops = absurd stops
 opening_lived WriteFault left ends behind old new unread unwritten s opened stops = (
   stops.0,
@@ -347,6 +353,8 @@ module _ (left ends behind old new : Option (List ℕ)) (s : ScenarioContent) (o
     ends_lived (Scenario refusal) unread since unwritten put wider more ended = absurd ended
     ends_lived (NotATrace fault) unread since unwritten put wider more ended = absurd ended
     ends_lived (BrokenOverlap fault) unread since unwritten put wider more ended = absurd ended
+    ends_lived Unsafe unread since unwritten put wider more ended = absurd ended
+    ends_lived (NotALog fault) unread since unwritten put wider more ended = absurd ended
     ends_lived ReadFault unread since unwritten put wider more ended = (wider ended.0, inr (lived_short ended.1))
     ends_lived WriteFault unread since unwritten put wider more ended = (more ended.0, lived_short ended.1)
     ends_lived NoMemory unread since unwritten put wider more ended = inr (lived_short ended)

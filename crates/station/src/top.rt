@@ -16,6 +16,7 @@ use crate::asking::band;
 use crate::checking::check_input;
 use crate::help::{HELP, VERSION};
 use crate::input::{Unread, whole_input};
+use crate::judging::judge;
 use crate::living::live;
 use crate::overlapping::overlaps;
 use crate::responding::respond;
@@ -101,6 +102,7 @@ fn answer<R: Threads + Sync, S: Source, K: Sink, G: Gate + Sync>(
         Command::Respond => respond(alloc, source, sink),
         Command::Overlaps(overlap) => overlaps(alloc, overlap, source, sink),
         Command::Live => live(alloc, source, sink),
+        Command::Judge(terms) => judge(alloc, terms, source, sink),
         Command::Help => tell(sink, HELP.as_bytes()),
         Command::Version => tell(sink, VERSION.as_bytes()),
     }
