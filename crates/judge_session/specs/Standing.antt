@@ -45,7 +45,7 @@ pub record WatchStands (w : CabinetWatch) (s : ScenarioContent) (joined : Bool) 
 -- what is kept of a log, after some lines of it, the newest first
 pub record JudgeStands (judge : LogJudge) (s : ScenarioContent) (terms : Terms) (before : List Line) : Type 0 where
   pub scenario : scenario_content judge.scenario ≡ s
-  pub terms : judge.terms ≡ terms
+  pub by : judge.terms ≡ terms
   pub few : length s.cabinets ≤ 64
   pub many : length judge.cabinets.items ≡ length s.cabinets
   pub each : (k : ℕ) (w : CabinetWatch) → k < length s.cabinets → WatchStands (get_or judge.cabinets.items k w) s terms.joined (k + 1) before
@@ -74,5 +74,5 @@ Follows (Err NoMemory) old new line text_before text = Unit {0}
 
 -- the lines of some breaches were appended to a text, and they were counted
 pub record Adds (text_before text : List ℕ) (count_before count : ℕ) (breaches : List Breach) : Type 0 where
-  pub text : text ≡ text_before ++ breaches_text breaches
-  pub count : count ≡ count_before + length breaches
+  pub appended : text ≡ text_before ++ breaches_text breaches
+  pub counted : count ≡ count_before + length breaches

@@ -16,7 +16,7 @@ pub enum LineFault {
 }
 
 /// Why a line isn't taken.
-#[derive(Clone, Copy, PartialEq, Eq)]
+#[derive(Clone, Copy)]
 pub enum NotTaken {
     /// It can't follow.
     Refused(LineFault),

@@ -84,10 +84,46 @@ fn put_phase(
     let now = put_pairs(out, count, cab, tick, phase, found.together)?;
     let now = put_if(out, now, found.lit, cab, tick, Clause::Apart, phase, 0)?;
     let now = put_if(out, now, course.order, cab, tick, Clause::Order, phase, 0)?;
-    let now = put_if(out, now, course.clearance, cab, tick, Clause::Clearance, phase, 0)?;
-    let now = put_if(out, now, course.green, cab, tick, Clause::ShortGreen, phase, 0)?;
-    let now = put_if(out, now, course.pedestrian, cab, tick, Clause::Pedestrian, phase, 0)?;
-    put_if(out, now, course.on_green, cab, tick, Clause::OnGreen, phase, 0)
+    let now = put_if(
+        out,
+        now,
+        course.clearance,
+        cab,
+        tick,
+        Clause::Clearance,
+        phase,
+        0,
+    )?;
+    let now = put_if(
+        out,
+        now,
+        course.green,
+        cab,
+        tick,
+        Clause::ShortGreen,
+        phase,
+        0,
+    )?;
+    let now = put_if(
+        out,
+        now,
+        course.pedestrian,
+        cab,
+        tick,
+        Clause::Pedestrian,
+        phase,
+        0,
+    )?;
+    put_if(
+        out,
+        now,
+        course.on_green,
+        cab,
+        tick,
+        Clause::OnGreen,
+        phase,
+        0,
+    )
 }
 
 /// Appends the lines of what is found of all phases. Gives how many breaches were found by then.

@@ -1,6 +1,6 @@
 //! The judge of a log: the cabinets of its scenario, and what is reported of each line.
 
-ghost use Rattle.std.specs.Prelude.{◌≡◌, ◌≤◌, ◌<◌, ◌+◌, ◌++◌, ◌∷◌, ℕ, List, [], Bool, true, false, length, map, get_or, not, IfOk, OnOk, MatchOption, Option, Some, None, Ok, Err};
+ghost use Rattle.std.specs.Prelude.{◌≡◌, ◌≤◌, ◌<◌, ◌+◌, ◌++◌, ◌∷◌, ℕ, List, [], Bool, true, false, length, map, get_or, not, IfOk, OnOk, MatchOption, IfSome, Option, Some, None, Ok, Err};
 ghost use Rattle.trace_text.specs.declared.lines.Line.{Line as LineRow};
 ghost use Rattle.scenario_data.specs.Content.{ScenarioContent, scenario_content};
 ghost use Rattle.judge_laws.specs.declared.Terms.{Terms as TermsRow};
@@ -151,7 +151,7 @@ impl LogJudge {
 
     /// The place of a cabinet that the scenario has.
     fn place(&self, cab: u32) -> Option<usize>
-        ensures { (s : ScenarioContent) → length self.now.cabinets.items ≡ length s.cabinets
+        ensures place { (s : ScenarioContent) → length self.now.cabinets.items ≡ length s.cabinets
             → MatchOption result (has_cabinet s cab ≡ false) (λ k. (has_cabinet s cab ≡ true) × (k + 1 ≡ cab)) }
         ensures within { IfSome result (λ k. k < length self.now.cabinets.items) }
     {
@@ -195,13 +195,7 @@ impl LogJudge {
     }
 
     /// Takes an accepted load.
-    fn load(
-        &mut self,
-        out: &mut Vec<u8>,
-        cab: u32,
-        id: u32,
-        version: u32,
-    ) -> Result<(), NotTaken>
+    fn load(&mut self, out: &mut Vec<u8>, cab: u32, id: u32, version: u32) -> Result<(), NotTaken>
         ensures { Follows result self.old self.new (LineRow.L cab id (Ok version)) out.old.items out.new.items }
     {
         let Some(k) = self.place(cab) else {
@@ -211,10 +205,17 @@ impl LogJudge {
             Some(fault) => return Err(NotTaken::Refused(fault)),
             None => {}
         }
-        let load = load_of(self.scenario.loads.as_slice(), cab, id);
-        match self.cabinets[k].load(out, cab, id, version, load) {
-            Ok(()) => Ok(()),
-            Err(NoMemory) => Err(NotTaken::NoMemory),
+        match load_of(self.scenario.loads.as_slice(), cab, id) {
+            Some(load) => self.cabinets[k].put_load(version, load),
+            None => {
+                if self.cabinets[k]
+                    .put_unknown_load(out, cab, id, version)
+                    .is_err()
+                {
+                    return Err(NotTaken::NoMemory);
+                }
+            }
         }
+        Ok(())
     }
 }

@@ -1,7 +1,6 @@
 //! What is kept of a cabinet: its judge, the tables in force, and what a frame or a load must follow.
 
 ghost use Rattle.std.specs.Prelude.{◌≡◌, ◌∷◌, ◌++◌, ◌+◌, ℕ, List, [], Bool, OnOk, IfOk, Option, Some, None, map, Ok};
-ghost use Rattle.std.specs.Option.{option_map};
 ghost use Rattle.trace_text.specs.declared.lines.Line.{Line as LineRow};
 ghost use Rattle.sig_tables.specs.Putting.{put_content};
 ghost use Rattle.safety_laws.specs.Whole.{downloads};
@@ -102,36 +101,40 @@ impl CabinetWatch {
         put_found(out, count, cab, tick, &found)
     }
 
-    /// Takes an accepted load that can follow, or that the scenario doesn't have: then a line reports that the tables are unknown.
-    pub fn load(
+    /// Takes an accepted load that can follow, and that the scenario has. Nothing is reported of it.
+    pub fn put_load(&mut self, version: u32, load: &LoadItem)
+        ensures { (s : ScenarioContent) (joined : Bool) (cab id : ℕ) (before : List LineRow) → WatchStands self.old s joined cab before
+            → version ≡ downloads cab before + 1 → load_told s cab id ≡ Some (map put_content load.now.cells.items)
+            → WatchStands self.new s joined cab (LineRow.L cab id (Ok version) ∷ before) }
+    {
+        self.version = version;
+        if self.known {
+            let mut tables = self.in_force.tables().copy();
+            tables.put_each(load.cells.as_slice());
+            self.in_force = InForce::new(&tables);
+        }
+    }
+
+    /// Takes an accepted load that can follow, and that the scenario doesn't have. If the tables were known until now, a line reports that
+    /// they aren't any more.
+    pub fn put_unknown_load(
         &mut self,
         out: &mut Vec<u8>,
         cab: u32,
         id: u32,
         version: u32,
-        load: Option<&LoadItem>,
     ) -> Result<(), NoMemory>
         ensures { OnOk result ((s : ScenarioContent) (joined : Bool) (before : List LineRow) → WatchStands self.old s joined cab before
-            → version ≡ downloads cab before + 1 → option_map (λ l. map put_content l.now.cells.items) load ≡ load_told s cab id
+            → version ≡ downloads cab before + 1 → load_told s cab id ≡ None
             → (out.new.items ≡ out.old.items ++ unknown_by s before (LineRow.L cab id (Ok version)))
             × WatchStands self.new s joined cab (LineRow.L cab id (Ok version) ∷ before)) }
     {
         self.version = version;
-        if !self.known {
-            return Ok(());
+        if self.known {
+            self.known = false;
+            return put_unknown(out, cab, id);
         }
-        match load {
-            Some(load) => {
-                let mut tables = self.in_force.tables().copy();
-                tables.put_each(load.cells.as_slice());
-                self.in_force = InForce::new(&tables);
-                Ok(())
-            }
-            None => {
-                self.known = false;
-                put_unknown(out, cab, id)
-            }
-        }
+        Ok(())
     }
 
     /// Appends the lines of the intervals that have run over their time at a tick and have not ended.

@@ -1,0 +1,112 @@
+-- Lines that are appended one after another, and counted.
+use Rattle.std.proofs.Common.{◌≡◌, ◌∙◌, ℕ, ◌+◌, ◌-◌, ◌<◌, zero, suc, List, [], ◌∷◌, ◌++◌, length, drop, append_assoc, append-nil, sym, ap, refl, arith, subst, Result, Ok, Err, IfOk, OnOk}
+use Rattle.std.proofs.lemmas.List.{drop_more, length-append}
+use Rattle.sig_types.specs.Phases.{all_phases}
+use Rattle.judge_laws.specs.declared.Breach.{Breach}
+use Rattle.judge_laws.specs.declared.Overrun.{Overrun}
+use Rattle.judge_laws.specs.Breaches.{each}
+use Rattle.judge_laws.specs.Overrun.{each_overruns}
+use Rattle.judge_session.specs.Report.{breach_text, breaches_text, overrun_text, overruns_text}
+use Rattle.judge_session.specs.Standing.{Adds}
+
+pub breaches-append : (xs ys : List Breach) → breaches_text (xs ++ ys) ≡ breaches_text xs ++ breaches_text ys
+breaches-append [] ys = refl
+breaches-append (x ∷ xs) ys =
+    ap (λ (t : List ℕ). breach_text x ++ t) (breaches-append xs ys) ∙ sym (append_assoc (breach_text x) (breaches_text xs) (breaches_text ys))
+
+pub overruns-append : (xs ys : List Overrun) → overruns_text (xs ++ ys) ≡ overruns_text xs ++ overruns_text ys
+overruns-append [] ys = refl
+overruns-append (x ∷ xs) ys =
+    ap (λ (t : List ℕ). overrun_text x ++ t) (overruns-append xs ys) ∙ sym (append_assoc (overrun_text x) (overruns_text xs) (overruns_text ys))
+
+pub adds-none : (text : List ℕ) (count : ℕ) → Adds text text count count []
+adds-none text count = record { appended = sym (append-nil text); counted = omega arith }
+
+pub adds-one : (old new : List ℕ) (count now : ℕ) (x : Breach) → new ≡ old ++ breach_text x → now ≡ count + 1 → Adds old new count now (x ∷ [])
+adds-one old new count now x e f = record {
+  appended = e ∙ ap (λ (t : List ℕ). old ++ t) (sym (append-nil (breach_text x)));
+  counted = f;
+}
+
+pub adds-then : (old mid new : List ℕ) (count some now : ℕ) (xs ys : List Breach) → Adds old mid count some xs → Adds mid new some now ys
+    → Adds old new count now (xs ++ ys)
+adds-then old mid new count some now xs ys one two = record {
+  appended = two.appended ∙ ap (λ (t : List ℕ). t ++ breaches_text ys) one.appended ∙ append_assoc old (breaches_text xs) (breaches_text ys)
+      ∙ ap (λ (t : List ℕ). old ++ t) (sym (breaches-append xs ys));
+  counted = omega (arith, one.counted, two.counted, length-append xs ys);
+}
+
+-- of a result that is Ok
+pub if-ok-then : {A E : Type 0} (P Q : A → Type 0) (r : Result A E) → ((x : A) → P x → Q x) → IfOk r P → IfOk r Q
+if-ok-then P Q (Ok x) f p = f x p
+if-ok-then P Q (Err e) f p = tt
+
+pub on-ok-then : {A E : Type 0} (P Q : Type 0) (r : Result A E) → (P → Q) → OnOk r P → OnOk r Q
+on-ok-then P Q (Ok x) f p = f p
+on-ok-then P Q (Err e) f p = tt
+
+-- of some breaches all but a rest were appended and counted
+pub record Leaves (old new : List ℕ) (count now : ℕ) (all rest : List Breach) : Type 0 where
+  pub text : old ++ breaches_text all ≡ new ++ breaches_text rest
+  pub number : count + length all ≡ now + length rest
+
+pub leaves-all : (old : List ℕ) (count : ℕ) (all : List Breach) → Leaves old old count count all all
+leaves-all old count all = record { text = refl; number = refl }
+
+pub leaves-next : (old mid new : List ℕ) (count some now : ℕ) (all left piece rest : List Breach) → left ≡ piece ++ rest
+    → Leaves old mid count some all left → Adds mid new some now piece → Leaves old new count now all rest
+leaves-next old mid new count some now all left piece rest split so more = record {
+  text = so.text ∙ ap (λ (x : List Breach). mid ++ breaches_text x) split ∙ ap (λ (t : List ℕ). mid ++ t) (breaches-append piece rest)
+      ∙ sym (append_assoc mid (breaches_text piece) (breaches_text rest)) ∙ ap (λ (t : List ℕ). t ++ breaches_text rest) (sym more.appended);
+  number = omega (arith, so.number, ap (λ (x : List Breach). length x) split, length-append piece rest, more.counted);
+}
+
+pub leaves-none : (old new : List ℕ) (count now : ℕ) (all left : List Breach) → left ≡ [] → Leaves old new count now all left → Adds old new count now all
+leaves-none old new count now all left none so = record {
+  appended = sym (append-nil new) ∙ ap (λ (x : List Breach). new ++ breaches_text x) (sym none) ∙ sym so.text;
+  counted = omega (arith, so.number, ap (λ (x : List Breach). length x) none);
+}
+
+-- of some intervals all but a rest were appended
+abbrev pub LeavesOver : List ℕ → List ℕ → List Overrun → List Overrun → Type 0
+LeavesOver old new all rest = old ++ overruns_text all ≡ new ++ overruns_text rest
+
+pub over-next : (old mid new : List ℕ) (all left piece rest : List Overrun) → left ≡ piece ++ rest
+    → LeavesOver old mid all left → new ≡ mid ++ overruns_text piece → LeavesOver old new all rest
+over-next old mid new all left piece rest split so more =
+    so ∙ ap (λ (x : List Overrun). mid ++ overruns_text x) split ∙ ap (λ (t : List ℕ). mid ++ t) (overruns-append piece rest)
+    ∙ sym (append_assoc mid (overruns_text piece) (overruns_text rest)) ∙ ap (λ (t : List ℕ). t ++ overruns_text rest) (sym more)
+
+pub over-none : (old new : List ℕ) (all left : List Overrun) → left ≡ [] → LeavesOver old new all left → new ≡ old ++ overruns_text all
+over-none old new all left none so = sym (append-nil new) ∙ ap (λ (x : List Overrun). new ++ overruns_text x) (sym none) ∙ sym so
+
+-- one after another
+pub over-then : (old mid new : List ℕ) (xs ys : List Overrun) → mid ≡ old ++ overruns_text xs → new ≡ mid ++ overruns_text ys → new ≡ old ++ overruns_text (xs ++ ys)
+over-then old mid new xs ys one two = two ∙ ap (λ (t : List ℕ). t ++ overruns_text ys) one ∙ append_assoc old (overruns_text xs) (overruns_text ys)
+    ∙ ap (λ (t : List ℕ). old ++ t) (sym (overruns-append xs ys))
+
+-- the phases from this place on: one, and those after it
+pub phase-next : (k : ℕ) → k < 16 → drop k all_phases ≡ (k + 1) ∷ drop (k + 1) all_phases
+phase-next zero h = refl
+phase-next (suc zero) h = refl
+phase-next (suc (suc zero)) h = refl
+phase-next (suc (suc (suc zero))) h = refl
+phase-next (suc (suc (suc (suc zero)))) h = refl
+phase-next (suc (suc (suc (suc (suc zero))))) h = refl
+phase-next (suc (suc (suc (suc (suc (suc zero)))))) h = refl
+phase-next (suc (suc (suc (suc (suc (suc (suc zero))))))) h = refl
+phase-next (suc (suc (suc (suc (suc (suc (suc (suc zero)))))))) h = refl
+phase-next (suc (suc (suc (suc (suc (suc (suc (suc (suc zero))))))))) h = refl
+phase-next (suc (suc (suc (suc (suc (suc (suc (suc (suc (suc zero)))))))))) h = refl
+phase-next (suc (suc (suc (suc (suc (suc (suc (suc (suc (suc (suc zero))))))))))) h = refl
+phase-next (suc (suc (suc (suc (suc (suc (suc (suc (suc (suc (suc (suc zero)))))))))))) h = refl
+phase-next (suc (suc (suc (suc (suc (suc (suc (suc (suc (suc (suc (suc (suc zero))))))))))))) h = refl
+phase-next (suc (suc (suc (suc (suc (suc (suc (suc (suc (suc (suc (suc (suc (suc zero)))))))))))))) h = refl
+phase-next (suc (suc (suc (suc (suc (suc (suc (suc (suc (suc (suc (suc (suc (suc (suc zero))))))))))))))) h = refl
+phase-next (suc (suc (suc (suc (suc (suc (suc (suc (suc (suc (suc (suc (suc (suc (suc (suc k)))))))))))))))) h = absurd (omega (arith, h))
+
+pub each-next : (of : ℕ → List Breach) (k : ℕ) → k < 16 → each of (drop k all_phases) ≡ of (k + 1) ++ each of (drop (k + 1) all_phases)
+each-next of k h = ap (λ (ps : List ℕ). each of ps) (phase-next k h)
+
+pub over-each-next : (of : ℕ → List Overrun) (k : ℕ) → k < 16 → each_overruns of (drop k all_phases) ≡ of (k + 1) ++ each_overruns of (drop (k + 1) all_phases)
+over-each-next of k h = ap (λ (ps : List ℕ). each_overruns of ps) (phase-next k h)

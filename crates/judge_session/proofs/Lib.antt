@@ -1,0 +1,3 @@
+pub mod Adding
+pub mod Versions
+pub mod Watching

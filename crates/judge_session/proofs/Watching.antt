@@ -1,0 +1,208 @@
+-- What is kept of a cabinet, one line after another.
+use Rattle.std.proofs.Common.{◌≡◌, ◌≢◌, ◌∙◌, ℕ, ◌+◌, ◌-◌, ◌<◌, ◌≤◌, ◌==◌, ◌&&◌, nat_lt, nat_le, not, zero, suc, Bool, true, false, if◌then◌else◌, List, [], ◌∷◌, ◌++◌, length, get_or, max, Option, Some, None, Ok, Err, IfSome, is_some, sym, ap, refl, arith, subst, inl, inr, unwrap_or, append-nil}
+use Rattle.std.proofs.lemmas.Bool.{eq-eqb, eqb-true, false≢true}
+use Rattle.std.proofs.lemmas.Bool.Decides.{eqb_tells}
+use Rattle.sig_types.specs.declared.frame.Colour.{Colour}
+use Rattle.sig_types.specs.declared.frame.Ped.{Ped}
+use Rattle.sig_types.specs.declared.frame.Mode.{Mode}
+use Rattle.sig_tables.specs.declared.cells.Cell.{Cell}
+use Rattle.sig_tables.specs.Cells.{Content}
+use Rattle.sig_tables.specs.Putting.{with_cells}
+use Rattle.sig_tables.specs.declared.tables.Tables.{Tables}
+use Rattle.trace_text.specs.declared.lines.Line.{Line}
+use Rattle.trace_text.specs.declared.lines.Line.TheVariants.{S, F, R, M, J, L, A, Z}
+use Rattle.safety_laws.specs.Safe.{Indications, told}
+use Rattle.safety_laws.specs.Whole.{downloads}
+use Rattle.scenario_data.specs.Content.{ScenarioContent}
+use Rattle.judge_laws.specs.declared.Terms.{Terms}
+use Rattle.judge_laws.specs.declared.Breach.{Breach}
+use Rattle.judge_laws.specs.Breaches.{within, frame_breaches}
+use Rattle.judge_laws.specs.TablesTold.{loaded, tables_told, version_told}
+use Rattle.judge.specs.declared.cabinet.CabinetJudge.{CabinetJudge}
+use Rattle.judge.specs.declared.in_force.InForce.{InForce}
+use Rattle.judge.specs.Cabinet.{AllFollow, ShowsAll}
+use Rattle.judge.specs.InForce.{IsInForce}
+use Rattle.judge_session.specs.declared.watch.CabinetWatch.{CabinetWatch}
+use Rattle.judge_session.specs.Told.{load_told, opening_at, in_force_told, is_known, tables_before}
+use Rattle.judge_session.specs.Standing.{AreTold, JudgesBy, WatchStands, last_of}
+use Rattle.judge_session.proofs.Versions.{version-now, version-kept}
+
+-- what is shown at a frame line
+abbrev pub shown : ℕ → List Colour → List Ped → Mode → ℕ → ℕ × Indications
+shown tick veh ped mode version = (tick, record { colours = veh; signals = ped; mode = mode; version = version })
+
+pub some-same : {A : Type 0} (x y : A) → Some x ≡ Some y → x ≡ y
+some-same x y e = ap (λ (o : Option A). unwrap_or o x) e
+
+-- the tables that are told are told
+pub are-told : (s : ScenarioContent) (cab : ℕ) (before : List Line) → AreTold s cab before (tables_before s before cab)
+are-told s cab before version t h = ap (λ (o : Option Tables). unwrap_or o (opening_at s cab)) h
+
+-- those of one load more are those of the lines before it
+pub told-less : (s : ScenarioContent) (cab : ℕ) (before : List Line) (c id made : ℕ) (tables : ℕ → Tables)
+    → AreTold s cab (L c id (Ok made) ∷ before) tables → AreTold s cab before tables
+told-less s cab before c id made tables all version t h =
+    all version t (version-kept (load_told s cab) (opening_at s cab) cab before c id made version t h)
+
+-- the tables in force are those of the newest version
+pub in-force-by : (s : ScenarioContent) (cab : ℕ) (before : List Line) (tables : ℕ → Tables) (t : Tables) → AreTold s cab before tables
+    → in_force_told s cab before ≡ Some t → tables (downloads cab before) ≡ t
+in-force-by s cab before tables t all e =
+    all (downloads cab before) t (version-now (load_told s cab) (opening_at s cab) cab before ∙ e)
+
+-- of tables that are known
+pub known-some : {A : Type 0} (o : Option A) → is_some o ≡ true → (x : A) × (o ≡ Some x)
+known-some (Some x) e = (x, refl)
+known-some None e = absurd (false≢true e)
+
+pub if-some : {A : Type 0} (P : A → Type 0) (o : Option A) (x : A) → o ≡ Some x → IfSome o P → P x
+if-some P o x e h = subst (λ (p : Option A). IfSome p P) e h
+
+pub some-if : {A : Type 0} (P : A → Type 0) (o : Option A) → ((x : A) → o ≡ Some x → P x) → IfSome o P
+some-if P (Some x) f = f x refl
+some-if P None f = tt
+
+pub unknown-none : {A : Type 0} (P : A → Type 0) (o : Option A) → is_some o ≡ false → IfSome o P
+unknown-none P None e = tt
+unknown-none P (Some x) e = absurd (false≢true (sym e))
+
+module _ (w : CabinetWatch) (s : ScenarioContent) (joined : Bool) (cab : ℕ) (before : List Line) where
+  -- a frame, or a load, of another cabinet changes nothing
+  pub other-frame : (c tick : ℕ) (veh : List Colour) (ped : List Ped) (mode : Mode) (counter target version : ℕ) → (c == cab) ≡ false
+      → WatchStands w s joined cab before → WatchStands w s joined cab (F c tick veh ped mode counter target version ∷ before)
+  other-frame c tick veh ped mode counter target version e so =
+      let same : told cab (F c tick veh ped mode counter target version ∷ before) ≡ told cab before = rw e refl in
+      record {
+        version = so.version;
+        last = so.last ∙ ap last_of (sym same);
+        known = so.known;
+        in_force = so.in_force;
+        judged = some-if _ (in_force_told s cab before) (λ t is tables all.
+            subst (λ (x : List (ℕ × Indications)). AllFollow w.judge joined tables x) (sym same)
+            (if-some (λ t. JudgesBy w.judge s joined cab before) (in_force_told s cab before) t is so.judged tables all));
+      }
+
+  pub other-load : (c id made : ℕ) → (c == cab) ≡ false
+      → WatchStands w s joined cab before → WatchStands w s joined cab (L c id (Ok made) ∷ before)
+  other-load c id made e so =
+      let same : in_force_told s cab (L c id (Ok made) ∷ before) ≡ in_force_told s cab before = rw e refl in
+      let count : downloads cab (L c id (Ok made) ∷ before) ≡ downloads cab before = rw e refl in
+      record {
+        version = so.version ∙ sym count;
+        last = so.last;
+        known = so.known ∙ ap is_some (sym same);
+        in_force = subst (λ (o : Option Tables). IfSome o (IsInForce w.in_force)) (sym same) so.in_force;
+        judged = subst (λ (o : Option Tables). IfSome o (λ t. JudgesBy w.judge s joined cab (L c id (Ok made) ∷ before))) (sym same)
+            (some-if _ (in_force_told s cab before) (λ t is tables all.
+            if-some (λ t. JudgesBy w.judge s joined cab before) (in_force_told s cab before) t is so.judged tables (told-less s cab before c id made tables all)));
+      }
+
+-- a frame of the cabinet whose tables are unknown
+pub frame-unknown : (w new : CabinetWatch) (s : ScenarioContent) (joined : Bool) (cab tick : ℕ) (veh : List Colour) (ped : List Ped) (mode : Mode)
+    (counter target version : ℕ) (before : List Line) → WatchStands w s joined cab before → w.known ≡ false
+    → new.version ≡ w.version → new.known ≡ w.known → new.last ≡ Some tick
+    → WatchStands new s joined cab (F cab tick veh ped mode counter target version ∷ before)
+frame-unknown w new s joined cab tick veh ped mode counter target version before so unknown v k l =
+    let own : (cab == cab) ≡ true = eq-eqb cab cab refl in
+    let e : is_known s cab before ≡ false = sym so.known ∙ unknown in
+    record {
+      version = v ∙ so.version;
+      last = rw own l;
+      known = k ∙ so.known;
+      in_force = unknown-none _ (in_force_told s cab before) e;
+      judged = unknown-none _ (in_force_told s cab before) e;
+    }
+
+-- a frame of the cabinet whose tables are known: its judge has taken it
+pub frame-known : (w new : CabinetWatch) (s : ScenarioContent) (joined : Bool) (cab tick : ℕ) (veh : List Colour) (ped : List Ped) (mode : Mode)
+    (counter target : ℕ) (before : List Line) → WatchStands w s joined cab before
+    → new.version ≡ w.version → new.known ≡ w.known → new.last ≡ Some tick → new.in_force ≡ w.in_force
+    → ((tables : ℕ → Tables) (older : List (ℕ × Indications)) (line : ℕ × Indications) → AllFollow w.judge joined tables older
+    → ShowsAll tick veh ped mode w.in_force tables line → AllFollow new.judge joined tables (line ∷ older))
+    → WatchStands new s joined cab (F cab tick veh ped mode counter target (downloads cab before) ∷ before)
+frame-known w new s joined cab tick veh ped mode counter target before so v k l f step =
+    let own : (cab == cab) ≡ true = eq-eqb cab cab refl in
+    let same : told cab (F cab tick veh ped mode counter target (downloads cab before) ∷ before) ≡ shown tick veh ped mode (downloads cab before) ∷ told cab before = rw own refl in
+    record {
+      version = v ∙ so.version;
+      last = l ∙ ap last_of (sym same);
+      known = k ∙ so.known;
+      in_force = subst (λ (x : InForce). IfSome (in_force_told s cab before) (IsInForce x)) (sym f) so.in_force;
+      judged = some-if _ (in_force_told s cab before) (λ t is tables all.
+          subst (λ (x : List (ℕ × Indications)). AllFollow new.judge joined tables x) (sym same)
+          (step tables (told cab before) (shown tick veh ped mode (downloads cab before))
+          (if-some (λ t. JudgesBy w.judge s joined cab before) (in_force_told s cab before) t is so.judged tables all)
+          (record {
+            at = refl;
+            shown = refl;
+            given = refl;
+            in_mode = refl;
+            under = subst (λ (x : Tables). IsInForce w.in_force x) (sym (in-force-by s cab before tables t all is))
+                (if-some (IsInForce w.in_force) (in_force_told s cab before) t is so.in_force);
+          })));
+    }
+
+-- what the line shows, by the tables that are told
+pub frame-shows : (w : CabinetWatch) (s : ScenarioContent) (joined : Bool) (cab tick : ℕ) (veh : List Colour) (ped : List Ped) (mode : Mode)
+    (before : List Line) → WatchStands w s joined cab before → w.known ≡ true
+    → AllFollow w.judge joined (tables_before s before cab) (told cab before)
+    × ShowsAll tick veh ped mode w.in_force (tables_before s before cab) (shown tick veh ped mode (downloads cab before))
+frame-shows w s joined cab tick veh ped mode before so known =
+    let (t, is) = known-some (in_force_told s cab before) (sym so.known ∙ known) in (
+      if-some (λ t. JudgesBy w.judge s joined cab before) (in_force_told s cab before) t is so.judged (tables_before s before cab) (are-told s cab before),
+      record {
+        at = refl;
+        shown = refl;
+        given = refl;
+        in_mode = refl;
+        under = subst (λ (x : Tables). IsInForce w.in_force x) (sym (in-force-by s cab before (tables_before s before cab) t (are-told s cab before) is))
+            (if-some (IsInForce w.in_force) (in_force_told s cab before) t is so.in_force);
+      },
+    )
+
+-- a load of the cabinet that the scenario has
+pub load-known : (w new : CabinetWatch) (s : ScenarioContent) (joined : Bool) (cab id made : ℕ) (before : List Line) (cells : List (Cell × Content))
+    → WatchStands w s joined cab before → w.known ≡ true → load_told s cab id ≡ Some cells
+    → new.version ≡ downloads cab before + 1 → new.known ≡ w.known → new.last ≡ w.last → new.judge ≡ w.judge
+    → IsInForce new.in_force (with_cells w.in_force.tables cells)
+    → WatchStands new s joined cab (L cab id (Ok made) ∷ before)
+load-known w new s joined cab id made before cells so known has v k l j f =
+    let own : (cab == cab) ≡ true = eq-eqb cab cab refl in
+    let (t, is) = known-some (in_force_told s cab before) (sym so.known ∙ known) in
+    let now : in_force_told s cab (L cab id (Ok made) ∷ before) ≡ Some (with_cells t cells) = rw own (rw has (rw is refl)) in
+    let was : IsInForce w.in_force t = if-some (IsInForce w.in_force) (in_force_told s cab before) t is so.in_force in
+    record {
+      version = rw own v;
+      last = l ∙ so.last;
+      known = k ∙ known ∙ sym (ap is_some now);
+      in_force = subst (λ (o : Option Tables). IfSome o (IsInForce new.in_force)) (sym now)
+          (subst (λ (x : Tables). IsInForce new.in_force (with_cells x cells)) was.tables f);
+      judged = subst (λ (o : Option Tables). IfSome o (λ t. JudgesBy new.judge s joined cab (L cab id (Ok made) ∷ before))) (sym now) (λ tables all.
+          subst (λ (x : CabinetJudge). AllFollow x joined tables (told cab before)) (sym j)
+          (if-some (λ t. JudgesBy w.judge s joined cab before) (in_force_told s cab before) t is so.judged tables (told-less s cab before cab id made tables all)));
+    }
+
+-- a load after which the tables of the cabinet are unknown: they were before, or the scenario doesn't have it
+pub load-unknown : (w new : CabinetWatch) (s : ScenarioContent) (joined : Bool) (cab id made : ℕ) (before : List Line)
+    → WatchStands w s joined cab before → loaded (load_told s cab id) (in_force_told s cab before) ≡ None
+    → new.version ≡ downloads cab before + 1 → new.known ≡ false → new.last ≡ w.last
+    → WatchStands new s joined cab (L cab id (Ok made) ∷ before)
+load-unknown w new s joined cab id made before so none v k l =
+    let own : (cab == cab) ≡ true = eq-eqb cab cab refl in
+    let now : in_force_told s cab (L cab id (Ok made) ∷ before) ≡ None = rw own none in
+    record {
+      version = rw own v;
+      last = l ∙ so.last;
+      known = k ∙ sym (ap is_some now);
+      in_force = subst (λ (o : Option Tables). IfSome o (IsInForce new.in_force)) (sym now) tt;
+      judged = subst (λ (o : Option Tables). IfSome o (λ t. JudgesBy new.judge s joined cab (L cab id (Ok made) ∷ before))) (sym now) tt;
+    }
+
+pub loaded-none : (cells : Option (List (Cell × Content))) (t : Option Tables) → is_some t ≡ false → loaded cells t ≡ None
+loaded-none (Some cells) None e = refl
+loaded-none None None e = refl
+loaded-none cells (Some t) e = absurd (false≢true (sym e))
+
+pub loaded-missing : (t : Option Tables) → loaded None t ≡ None
+loaded-missing None = refl
+loaded-missing (Some t) = refl
