@@ -1,7 +1,7 @@
 -- The words of `judge` give the terms of one judging, and an option that need not be given has one number.
-use Rattle.std.proofs.Common.{◌≡◌, ◌≤◌, ◌↔◌, ◌∙◌, ◌++◌, inl, inr, ℕ, List, [], ◌∷◌, true, false, Bool, Option, Some, None, codes, decimal, get_or, drop, refl, sym, ap, subst, arith}
+use Rattle.std.proofs.Common.{◌≡◌, ◌≤◌, ◌↔◌, ◌∙◌, ◌++◌, inl, inr, ℕ, List, [], ◌∷◌, true, false, Bool, Some, None, codes, decimal, get_or, drop, refl, sym, ap, subst, arith}
 use Rattle.judge_laws.specs.declared.Terms.{Terms}
-use Rattle.command_words.specs.Words.{IsOptional, joined_words, IsTerms, IsJudge}
+use Rattle.command_words.specs.Words.{IsRun, IsOptional, joined_words, IsTerms, IsJudge}
 use Rattle.command_words.proofs.Decimals.{same_number}
 
 pub one_optional : (words : List (List ℕ)) (option : List ℕ) (most m n : ℕ) → most ≤ 4294967295 → IsOptional words option most m → IsOptional words option most n → m ≡ n
@@ -29,6 +29,19 @@ no_optional words option most some never n = (λ e. absurd (cc), λ are. absurd 
     none : IsOptional words option most n → ⊥
     none (inl a) = some a.0
     none (inr b) = never n b.1 b.0
+
+pub optional_few : (words : List (List ℕ)) (option : List ℕ) (most n : ℕ) → IsOptional words option most n → n ≤ most
+optional_few words option most n (inl a) = let none : n ≡ 0 = a.1 in omega (arith, none)
+optional_few words option most n (inr b) = b.1
+
+-- `run` has the number of its workers so
+pub run_of : (words rest : List (List ℕ)) (n : ℕ) → words ≡ codes "run" ∷ rest → IsOptional rest (codes "--workers") 8 n → IsRun words n
+run_of words rest n is (inl a) = inl (is ∙ ap (λ (ws : List (List ℕ)). codes "run" ∷ ws) a.0, a.1)
+run_of words rest n is (inr b) = inr (is ∙ ap (λ (ws : List (List ℕ)). codes "run" ∷ ws) b.0, b.1)
+
+pub of_run : (words rest : List (List ℕ)) (n : ℕ) → words ≡ codes "run" ∷ rest → IsRun words n → IsOptional rest (codes "--workers") 8 n
+of_run words rest n is (inl a) = inl (ap (λ (ws : List (List ℕ)). drop 1 ws) (sym is ∙ a.0), a.1)
+of_run words rest n is (inr b) = inr (ap (λ (ws : List (List ℕ)). drop 1 ws) (sym is ∙ b.0), b.1)
 
 -- a tolerance is not the word of a log that begins in the middle
 tolerance_first : (rest more : List (List ℕ)) (n : ℕ) → IsOptional rest (codes "--tolerance") 20 n → rest ≡ codes "--joined" ∷ more → ⊥

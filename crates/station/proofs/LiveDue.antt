@@ -43,7 +43,7 @@ due_session status input s requests unwritten is done =
     }
 
 -- a refusal is expected
-due_refused : (refusal : Refusal) (input : List ℕ) (unwritten : Type 0) → IsLineRefused refusal (Some input) → IsLiveDue (Scenario refusal) (first_line input) unwritten
+due_refused : (refusal : Refusal) (input : List ℕ) (unwritten : Type 0) → IsLineRefused IsFirstLineFault refusal (Some input) → IsLiveDue (Scenario refusal) (first_line input) unwritten
 due_refused refusal input unwritten (inl (limit, long)) = record {
   too_long = λ more. limit;
   fault = λ short none. let few : length (first_line input) ≤ 16777216 = short in absurd (omega (arith, few, long));

@@ -80,16 +80,15 @@ pub record IsUnsafeLog (terms : Terms) (left old new : Option (List ℕ)) (s : S
   pub some : log_found s terms whole.before ≢ []
   pub unsafe : terms ≡ exact → AllKnown s whole.before → AllSafe s whole.before → ⊥
 
--- the first lines are a log, and the one after them can't follow: the report of those before it was appended
+-- the line with this number is the first that can't follow: the lines before it are a log, and their report was appended. The
+-- place of a line is counted from 0, after the first line of the input, which has number 1
 pub record StopsAt (terms : Terms) (fault : LogFault) (left old new : Option (List ℕ)) (s : ScenarioContent) : Type 0 where
-  pub bytes : List (List ℕ)
-  pub before : List Line
-  pub line : List ℕ
-  pub rest : List (List ℕ)
   pub lines : List (List ℕ)
+  pub place : ℕ
+  pub before : List Line
   pub all : AreLogLines left lines
-  pub stops : LogStops s bytes before line rest lines fault.fault
-  pub number : fault.line ≡ length bytes + 2
+  pub stops : LogStops s lines place before fault.fault
+  pub number : fault.line ≡ place + 2
   pub written : Appends old new (log_report s terms before)
 
 -- it stopped: the first lines are a log, and a proper prefix of their report was appended
@@ -141,9 +140,8 @@ pub record IsJudgeDue (terms : Terms) (status : Status) (input : List ℕ) (unwr
       → log_found s terms before ≡ [] → ¬ unwritten → status ≡ Done
   pub unsafe : (s : ScenarioContent) (before : List Line) → IsHead (first_line input) s → IsLog s (log_lines input) before
       → log_found s terms before ≢ [] → ¬ unwritten → status ≡ Unsafe
-  pub stopped : (s : ScenarioContent) (bytes : List (List ℕ)) (before : List Line) (line : List ℕ) (rest : List (List ℕ)) (fault : LogFault)
-      → IsHead (first_line input) s → LogStops s bytes before line rest (log_lines input) fault.fault → fault.line ≡ length bytes + 2
-      → ¬ unwritten → status ≡ NotALog fault
+  pub stopped : (s : ScenarioContent) (place : ℕ) (before : List Line) (fault : LogFault) → IsHead (first_line input) s
+      → LogStops s (log_lines input) place before fault.fault → fault.line ≡ place + 2 → ¬ unwritten → status ≡ NotALog fault
 
 -- what an answer to `judge` says; if no read fails, it is the one expected for the input, or memory ran out
 pub record JudgeAnswer (terms : Terms) (status : Status) (io : Io) : Type 0 where
