@@ -6,3 +6,7 @@ mod OverlapDue
 mod Telling
 mod Sessions
 mod LiveDue
+mod JudgedTables
+mod Judging
+mod Logs
+mod JudgeDue
