@@ -7,6 +7,6 @@ mod Telling
 mod Sessions
 mod LiveDue
 mod JudgedTables
-mod Judging
+mod LogReports
 mod Logs
 mod JudgeDue
