@@ -110,3 +110,11 @@ each-next of k h = ap (λ (ps : List ℕ). each of ps) (phase-next k h)
 
 pub over-each-next : (of : ℕ → List Overrun) (k : ℕ) → k < 16 → each_overruns of (drop k all_phases) ≡ of (k + 1) ++ each_overruns of (drop (k + 1) all_phases)
 over-each-next of k h = ap (λ (ps : List ℕ). each_overruns of ps) (phase-next k h)
+
+-- the same from a phase on
+pub each-from : (of : ℕ → List Breach) (m : ℕ) → 0 < m → m < 17 → each of (drop (m - 1) all_phases) ≡ of m ++ each of (drop (m + 1 - 1) all_phases)
+each-from of m some few =
+    let e : m - 1 + 1 ≡ m = omega (arith, some) in
+    let f : m ≡ m + 1 - 1 = omega arith in
+    let h : m - 1 < 16 = omega (arith, some, few) in
+    each-next of (m - 1) h ∙ ap (λ (n : ℕ). of n ++ each of (drop n all_phases)) e ∙ ap (λ (n : ℕ). of m ++ each of (drop n all_phases)) f

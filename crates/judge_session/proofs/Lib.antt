@@ -1,3 +1,4 @@
 pub mod Adding
 pub mod Versions
 pub mod Watching
+pub mod Judging

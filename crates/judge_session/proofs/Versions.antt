@@ -1,7 +1,7 @@
 -- The tables of versions, one line after another.
 use Rattle.std.proofs.Common.{◌≡◌, ◌≢◌, ◌∙◌, ℕ, ◌+◌, ◌<◌, ◌≤◌, ◌==◌, ◌&&◌, zero, suc, Bool, true, false, if◌then◌else◌, List, [], ◌∷◌, Option, Some, None, Ok, Err, sym, ap, refl, arith, subst, inl, inr, unwrap_or}
 use Rattle.std.proofs.lemmas.Bool.{eq-eqb, eqb-true, false≢true}
-use Rattle.std.proofs.lemmas.Bool.Decides.{eqb_tells}
+use Rattle.std.proofs.lemmas.Option.{none-some}
 use Rattle.sig_tables.specs.declared.cells.Cell.{Cell}
 use Rattle.sig_tables.specs.Cells.{Content}
 use Rattle.sig_tables.specs.declared.tables.Tables.{Tables}
@@ -35,10 +35,7 @@ module _ (load : ℕ → Option (List (Cell × Content))) (opening : Tables) (ca
     where
       split : (b : Bool) → (version == 0) ≡ b → (if b then Some opening else None) ≡ Some t → version ≤ 0
       split true e g = let z : version ≡ 0 = eqb-true version 0 e in omega (arith, z)
-      split false e g = absurd (none-some g)
-        where
-          none-some : None ≡ Some t → ⊥
-          none-some ()
+      split false e g = absurd (none-some t g)
   version-made (L c id (Ok made) ∷ before) version t h = split (c == cab) refl
     where
       last : (b : Bool) → (version == downloads cab before + 1) ≡ b

@@ -1,5 +1,5 @@
 -- The tables of each cabinet by its scenario and the lines of a log. Lists of lines have the newest line first.
-use Rattle.std.specs.Prelude.{ℕ, ◌-◌, ◌&&◌, nat_lt, nat_le, zero, suc, Bool, is_some, List, length, Option, Some, None, slice_get, unwrap_or, option_map}
+use Rattle.std.specs.Prelude.{ℕ, ◌-◌, ◌==◌, ◌&&◌, nat_lt, nat_le, if◌then◌else◌, Bool, is_some, List, length, Option, Some, None, slice_get, unwrap_or, option_map}
 use Rattle.sig_tables.specs.declared.cells.Cell.{Cell}
 use Rattle.sig_tables.specs.declared.tables.Tables.{Tables}
 use Rattle.sig_tables.specs.Cells.{Content}
@@ -24,8 +24,7 @@ opening_at s cab = opening_or (slice_get s.cabinets (cab - 1))
 
 -- the cells of a cabinet's load with this number, counted from 1
 abbrev pub load_told : ScenarioContent → ℕ → ℕ → Option (List (Cell × Content))
-load_told s cab zero = None
-load_told s cab (suc place) = option_map (λ l. l.cells) (slice_get (loads_of cab s.loads) place)
+load_told s cab id = if id == 0 then None else option_map (λ l. l.cells) (slice_get (loads_of cab s.loads) (id - 1))
 
 -- the tables in force at a cabinet after some lines; unknown after an accepted load that the scenario doesn't have
 abbrev pub in_force_told : ScenarioContent → ℕ → List Line → Option Tables

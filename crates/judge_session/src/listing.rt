@@ -1,6 +1,6 @@
 //! The lines of what is found of the phases: breaches, which are counted, and intervals that have run over their time.
 
-ghost use Rattle.std.specs.Prelude.{◌≡◌, ◌≤◌, ◌<◌, ◌&&◌, ◌++◌, nat_lt, IfOk, OnOk};
+ghost use Rattle.std.specs.Prelude.{◌≡◌, ◌≤◌, ◌<◌, ◌&&◌, ◌++◌, nat_lt, ℕ, [], IsTrue, IfOk, OnOk};
 ghost use Rattle.sig_types.specs.Phases.{all_phases};
 ghost use Rattle.sig_types.specs.PhaseSet.{has};
 ghost use Rattle.judge_laws.specs.declared.Clause.{Clause as ClauseOf};
@@ -46,6 +46,15 @@ fn put_if(
     }
 }
 
+/// Whether another phase, 1 to 16, is a higher one that is on together with a phase.
+fn is_pair(together: PhaseSet, phase: u8, other: u8) -> bool
+    requires above { 0 < other }
+    requires within { other ≤ 16 }
+    ensures { result ≡ (nat_lt phase other && has together other) }
+{
+    phase < other && together.has(other)
+}
+
 /// Appends the lines of the phases that are on together with a phase and may not be: a pair is reported at the lower phase.
 fn put_pairs(
     out: &mut Vec<u8>,
@@ -58,15 +67,23 @@ fn put_pairs(
     ensures { IfOk result (λ now. Adds out.old.items out.new.items count now
         (each (λ q. found (nat_lt phase q && has together q) (breach_at cab tick ClauseOf.Apart phase q)) all_phases)) }
 {
-    if together.is_empty() {
-        return Ok(count);
-    }
     let mut now = count;
     for other in 1..17u8 {
-        let is_found = phase < other && together.has(other);
+        let is_found = is_pair(together, phase, other);
         now = put_if(out, now, is_found, cab, tick, Clause::Apart, phase, other)?;
     }
     Ok(now)
+}
+
+/// Whether nothing is found of a phase.
+fn is_clean(found: PhaseFound) -> bool
+    ensures { IsTrue result → (cab tick p : ℕ) → listed_breaches cab tick p found ≡ [] }
+{
+    let course = found.course;
+    let none = PhaseSet::empty();
+    let apart = found.together == none && !found.lit;
+    let lasts = !course.clearance && !course.green && !course.pedestrian;
+    apart && lasts && !course.order && !course.on_green
 }
 
 /// Appends the lines of what is found of a phase, by clause.
@@ -80,13 +97,16 @@ fn put_phase(
 ) -> Result<u64, NoMemory>
     ensures { IfOk result (λ now. Adds out.old.items out.new.items count now (listed_breaches cab tick phase found)) }
 {
+    if is_clean(found) {
+        return Ok(count);
+    }
     let course = found.course;
-    let now = put_pairs(out, count, cab, tick, phase, found.together)?;
-    let now = put_if(out, now, found.lit, cab, tick, Clause::Apart, phase, 0)?;
-    let now = put_if(out, now, course.order, cab, tick, Clause::Order, phase, 0)?;
-    let now = put_if(
+    let pairs = put_pairs(out, count, cab, tick, phase, found.together)?;
+    let lit = put_if(out, pairs, found.lit, cab, tick, Clause::Apart, phase, 0)?;
+    let order = put_if(out, lit, course.order, cab, tick, Clause::Order, phase, 0)?;
+    let clear = put_if(
         out,
-        now,
+        order,
         course.clearance,
         cab,
         tick,
@@ -94,9 +114,9 @@ fn put_phase(
         phase,
         0,
     )?;
-    let now = put_if(
+    let green = put_if(
         out,
-        now,
+        clear,
         course.green,
         cab,
         tick,
@@ -104,9 +124,9 @@ fn put_phase(
         phase,
         0,
     )?;
-    let now = put_if(
+    let walk = put_if(
         out,
-        now,
+        green,
         course.pedestrian,
         cab,
         tick,
@@ -116,7 +136,7 @@ fn put_phase(
     )?;
     put_if(
         out,
-        now,
+        walk,
         course.on_green,
         cab,
         tick,

@@ -187,7 +187,7 @@ impl LogJudge {
         match self.cabinets[k].frame(out, count, cab, tick, veh, ped, mode, terms) {
             Ok(count) => {
                 self.breaches = count;
-                self.last = self.last.max(tick);
+                self.last = tick.max(self.last);
                 Ok(())
             }
             Err(NoMemory) => Err(NotTaken::NoMemory),

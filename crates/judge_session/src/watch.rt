@@ -35,9 +35,11 @@ impl CabinetWatch {
     pub fn new(tables: &Tables, joined: bool) -> CabinetWatch
         ensures { (s : ScenarioContent) (cab : ℕ) → opening_at s cab ≡ tables.now → WatchStands result s joined cab [] }
     {
+        let judge = CabinetJudge::new(joined);
+        let in_force = InForce::new(tables);
         CabinetWatch {
-            judge: CabinetJudge::new(joined),
-            in_force: InForce::new(tables),
+            judge,
+            in_force,
             known: true,
             version: 0,
             last: None,
