@@ -1,6 +1,6 @@
 -- The tables of a log stay known: judged line by line, by the tables told until then, a log shows the breaches that it shows by the
 -- tables told in the end.
-use Rattle.std.proofs.Common.{◌≡◌, ◌≢◌, ◌≤◌, ◌<◌, ◌+◌, ◌∙◌, ◌==◌, ◌&&◌, nat_lt, nat_le, not, ℕ, Bool, true, false, if◌then◌else◌, List, [], ◌∷◌, ◌++◌, Option, Some, None, Result, Ok, Err, is_some, unwrap_or, reverse, refl, sym, ap, subst, arith}
+use Rattle.std.proofs.Common.{◌≡◌, ◌≢◌, ◌≤◌, ◌<◌, ◌+◌, ◌∙◌, ◌==◌, ◌&&◌, ◌||◌, nat_lt, nat_le, not, ℕ, Bool, true, false, if◌then◌else◌, List, [], ◌∷◌, ◌++◌, Option, Some, None, Result, Ok, Err, is_some, unwrap_or, reverse, refl, sym, ap, subst, arith}
 use Rattle.std.proofs.lemmas.Bool.{eqb-true, ltb-true}
 use Rattle.std.proofs.lemmas.List.{reverse-reverse}
 use Rattle.sig_types.specs.declared.frame.Colour.TheVariants.{Green, Yellow, Clear}
@@ -39,11 +39,11 @@ more_at_most n m (line ∷ older) few (here, all) = (let below : line.1.version 
 -- so has the line at which an interval began
 first_at_most : (n : ℕ) (holds : Indications → Bool) (older : List (ℕ × Indications)) → AtMost n older → (first_of holds older).1.version ≤ n
 first_at_most n holds [] all = omega arith
-first_at_most n holds (line ∷ older) (here, all) = split (holds (newest older))
+first_at_most n holds (line ∷ older) (here, all) = split (holds (newest older)) (first_at_most n holds older all)
   where
-    split : (b : Bool) → (if b then first_of holds older else line).1.version ≤ n
-    split true = first_at_most n holds older all
-    split false = here
+    split : (b : Bool) → (first_of holds older).1.version ≤ n → (if b then first_of holds older else line).1.version ≤ n
+    split true before = before
+    split false before = here
 
 each_same : (of by : ℕ → List Breach) → ((p : ℕ) → of p ≡ by p) → (phases : List ℕ) → each of phases ≡ each by phases
 each_same of by same [] = refl
@@ -180,21 +180,20 @@ is_below tick (line ∷ older) later = ltb-true line.0 tick later
 -- the ticks of lines that follow one another fall, and their versions are at most the number of accepted loads
 falls : (s : ScenarioContent) (cab : ℕ) (before : List Line) → Follow s before → Falls (told cab before) × AtMost (downloads cab before) (told cab before)
 falls s cab [] follow = (tt, tt)
-falls s cab (F c tick veh ped mode counter target version ∷ before) (first, rest) = split (c == cab) refl
+falls s cab (F c tick veh ped mode counter target version ∷ before) (first, rest) = split (c == cab) refl (falls s cab before rest)
   where
-    split : (b : Bool) → (c == cab) ≡ b
+    split : (b : Bool) → (c == cab) ≡ b → Falls (told cab before) × AtMost (downloads cab before) (told cab before)
         → Falls (if b then (tick, record { colours = veh; signals = ped; mode = mode; version = version }) ∷ told cab before else told cab before)
         × AtMost (downloads cab before) (if b then (tick, record { colours = veh; signals = ped; mode = mode; version = version }) ∷ told cab before else told cab before)
-    split true is =
+    split true is known =
         let both = three_hold _ _ _ (has_cabinet s c) (is_later tick (told c before)) (version == downloads c before) first in
         let same : c ≡ cab = eqb-true c cab is in
         let last : version ≡ downloads c before = eqb-true version (downloads c before) both.1 in
-        let known = falls s cab before rest in
         let few : version ≤ downloads cab before = subst (λ (x : ℕ). version ≤ downloads x before) same (omega (arith, last)) in (
           (subst (λ (x : ℕ). Below tick (told x before)) same (is_below tick (told c before) both.0), known.0),
           (few, known.1),
         )
-    split false is = falls s cab before rest
+    split false is known = known
 falls s cab (L c id (Ok made) ∷ before) (first, rest) =
     let known = falls s cab before rest in
     (known.0, more_at_most (downloads cab before) (downloads cab (L c id (Ok made) ∷ before)) (told cab before) (downloads_rise cab (L c id (Ok made)) before) known.1)

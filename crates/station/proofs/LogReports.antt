@@ -1,5 +1,5 @@
 -- A log, line by line, as it is judged and reported.
-use Rattle.std.proofs.Common.{◌≡◌, ◌≢◌, ◌<◌, ◌≤◌, ◌+◌, ◌⊎◌, ◌∙◌, inl, inr, nat_le, ℕ, Bool, true, false, if◌then◌else◌, List, [], ◌∷◌, ◌++◌, length, map, filter, reverse, Option, Some, None, IfSome, append_assoc, append-nil, refl, sym, ap, subst, arith}
+use Rattle.std.proofs.Common.{◌≡◌, ◌≢◌, ◌<◌, ◌≤◌, ◌+◌, ◌⊎◌, ◌∙◌, inl, inr, nat_le, ℕ, Bool, true, false, if◌then◌else◌, List, [], ◌∷◌, ◌++◌, length, map, filter, reverse, Option, Some, None, IfSome, Result, Ok, Err, IfOk, OnOk, append_assoc, append-nil, refl, sym, ap, subst, arith}
 use Rattle.std.proofs.lemmas.Bool.{lt-leb, le-leb}
 use Rattle.std.proofs.lemmas.List.{map-append, length-append}
 use Rattle.std.proofs.lemmas.List.Elements.{filter-append}
@@ -59,24 +59,26 @@ log_line s bytes before line l short read follows is = record {
 }
 
 -- the report at the end of a log isn't empty
+some_total : (cabinets breaches : ℕ) → total_text cabinets breaches ≢ []
+unfolding total_text
+some_total cabinets breaches = λ none. cc none
+
 some_end : (s : ScenarioContent) (terms : Terms) (before : List Line) → end_report s terms before ≢ []
-some_end s terms before = some_behind (overruns_text (log_overruns s terms before)) (total_text (length s.cabinets) (length (log_found s terms before))) (some_total (length s.cabinets) (length (log_found s terms before)))
-  where
-    some_total : (cabinets breaches : ℕ) → total_text cabinets breaches ≢ []
-    unfolding total_text
-    some_total cabinets breaches = λ none. cc none
+some_end s terms before =
+    some_behind (overruns_text (log_overruns s terms before)) (total_text (length s.cabinets) (length (log_found s terms before)))
+    (some_total (length s.cabinets) (length (log_found s terms before)))
 
 module _ (s : ScenarioContent) (terms : Terms) (before : List Line) where
   -- a line was taken
-  pub next_taken : (old judge : LogJudge) (ahead behind : Option (List ℕ)) (line text : List ℕ) (over : Bool) → Takes old judge s terms before line [] text
+  pub next_taken : (judge : LogJudge) (ahead behind : Option (List ℕ)) (line text : List ℕ) (over : Bool) → Takes judge s terms before line [] text
       → GivesLine ahead behind line → length line ≤ 4096 → over ≡ false → JudgesNext over s terms before judge ahead behind text
-  next_taken old judge ahead behind line text over takes gives short on = inl (record {
+  next_taken judge ahead behind line text over takes gives short on = inl (record {
     line = line;
     next = gives;
     after = takes.line ∷ before;
-    log = λ bytes is. log_line s bytes before line takes.line short takes.read takes.follows is;
-    stands = takes.stands;
-    report = ap (λ (t : List ℕ). log_report s terms before ++ t) (sym takes.report);
+    log = λ bytes is. log_line s bytes before line takes.line short takes.read takes.on.follows is;
+    stands = takes.on.stands;
+    report = ap (λ (t : List ℕ). log_report s terms before ++ t) (sym takes.on.report);
     over_is = on;
   })
 
@@ -197,9 +199,9 @@ module _ (s : ScenarioContent) (terms : Terms) (from judge : LogJudge) (left ahe
         told_lines (Some input) lines same e so = sym e ∙ so
 
     pub stops_here : (status : Status) (unread since unwritten : Type 0) → (unread → since) → mid ≡ new
-        → StopsReading status unread (λ fault. (before : List Line) → JudgeStands from s terms before → RefusesNext fault number s before ahead behind)
+        → StopsReading status unread (λ fault. (t : ScenarioContent) (by : Terms) (before : List Line) → JudgeStands from t by before → RefusesNext fault number t before ahead behind)
         → LogEnds terms status since unwritten left old new s
-    stops_here (NotALog fault) unread since unwritten wider same stops = refused_here fault same (stops is.before is.stands)
+    stops_here (NotALog fault) unread since unwritten wider same stops = refused_here fault same (stops s terms is.before is.stands)
     stops_here ReadFault unread since unwritten wider same stops = (wider stops, judged_here same)
     stops_here NoMemory unread since unwritten wider same stops = judged_here same
     stops_here Done unread since unwritten wider same stops = absurd stops
@@ -209,6 +211,21 @@ module _ (s : ScenarioContent) (terms : Terms) (from judge : LogJudge) (left ahe
     stops_here (BrokenOverlap fault) unread since unwritten wider same stops = absurd stops
     stops_here Unsafe unread since unwritten wider same stops = absurd stops
     stops_here WriteFault unread since unwritten wider same stops = absurd stops
+
+-- what a judge that was given a line says of the next one
+pub judged_line : (result : Result Bool Status) (old new : LogJudge) (ahead behind : Option (List ℕ)) (line text : List ℕ) → GivesLine ahead behind line → length line ≤ 4096
+    → IfOk result (λ over. over ≡ false)
+    → OnOk result ((s : ScenarioContent) (terms : Terms) (before : List Line) → JudgeStands old s terms before → Takes new s terms before line [] text)
+    → IfOk result (λ over. (s : ScenarioContent) (terms : Terms) (before : List Line) → JudgeStands old s terms before → JudgesNext over s terms before new ahead behind text)
+judged_line (Ok over) old new ahead behind line text gives short on takes =
+    λ s terms before stands. next_taken s terms before new ahead behind line text over (takes s terms before stands) gives short on
+judged_line (Err status) old new ahead behind line text gives short on takes = tt
+
+-- a log that goes on is still judged
+pub still_judges : (over : Bool) (s : ScenarioContent) (terms : Terms) (before : List Line) (judge : LogJudge) (ahead behind : Option (List ℕ)) (text : List ℕ)
+    → JudgesNext over s terms before judge ahead behind text → over ≡ false → (after : List Line) × JudgeStands judge s terms after
+still_judges over s terms before judge ahead behind text (inl line) on = (line.after, line.stands)
+still_judges over s terms before judge ahead behind text (inr end) on = (before, end.stands)
 
 -- a write failed within a report
 pub told_log : (terms : Terms) (status : Status) (text : List ℕ) (unread failed unwritten : Type 0) (left old mid new : Option (List ℕ)) (s : ScenarioContent) → (status ≡ Done → ⊥)

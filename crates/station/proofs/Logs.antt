@@ -99,7 +99,7 @@ no_fault : (s : ScenarioContent) (before : List Line) (bytes : List ℕ) (l : Li
 no_fault s before bytes l fault read none is = by (fault_is s before bytes fault is)
   where
     by : ((fault ≡ NotALine) × ((line : Line) → IsRead bytes line → ⊥)) ⊎ ((line : Line) × IsRead bytes line × (fault_of s before line ≡ Some fault)) → ⊥
-    by (inl (no, never)) = never l read
+    by (inl (unread, never)) = never l read
     by (inr (line, other, some)) =
         let same : line ≡ l = one_read bytes line l other read in
         let both : Some fault ≡ None = sym (subst (λ (x : Line). fault_of s before x ≡ Some fault) same some) ∙ none in cc
@@ -109,9 +109,9 @@ one_fault s before bytes f g is are = by (fault_is s before bytes f is) (fault_i
   where
     by : ((f ≡ NotALine) × ((line : Line) → IsRead bytes line → ⊥)) ⊎ ((line : Line) × IsRead bytes line × (fault_of s before line ≡ Some f))
         → ((g ≡ NotALine) × ((line : Line) → IsRead bytes line → ⊥)) ⊎ ((line : Line) × IsRead bytes line × (fault_of s before line ≡ Some g)) → f ≡ g
-    by (inl (no, never)) (inl (neither, nor)) = no ∙ sym neither
-    by (inl (no, never)) (inr (line, read, some)) = absurd (never line read)
-    by (inr (line, read, some)) (inl (neither, nor)) = absurd (nor line read)
+    by (inl (unread, never)) (inl (unreadable, nor)) = unread ∙ sym unreadable
+    by (inl (unread, never)) (inr (line, read, some)) = absurd (never line read)
+    by (inr (line, read, some)) (inl (unreadable, nor)) = absurd (nor line read)
     by (inr (line, read, some)) (inr (other, again, too)) =
         let same : other ≡ line = one_read bytes other line again read in
         let both : Some f ≡ Some g = sym some ∙ subst (λ (x : Line). fault_of s before x ≡ Some g) same too in cc

@@ -2,7 +2,7 @@
 //! shows is written before the next one is read. The contracts say what is written, and that the reader reads only while
 //! it has no whole line; the order of reads and writes is not part of any contract.
 
-ghost use Rattle.std.specs.Prelude.{◌≡◌, ◌≤◌, ◌<◌, ◌+◌, ◌⊎◌, ◌∷◌, ℕ, List, [], true, false, length, Option, Err, Some, IfOk, OnOk};
+ghost use Rattle.std.specs.Prelude.{◌≡◌, ◌≤◌, ◌<◌, ◌+◌, ◌⊎◌, ◌∷◌, ℕ, List, [], true, false, length, Option, Err, Some, IfOk, IfSome, OnOk};
 ghost use Rattle.io_edge.specs.Edge.{Rises, Stays, Appends};
 ghost use Rattle.scenario_data.specs.Content.{ScenarioContent, scenario_content};
 ghost use Rattle.scenario_data.specs.declared.refusal.Refusal.{Refusal};
