@@ -263,6 +263,10 @@ pub stops_unread : (status : Status) (unread : Type 0) (Refuses : LogFault → T
 stops_unread status unread Refuses (inl (is, failed)) = subst (λ (x : Status). StopsReading x unread Refuses) (sym is) failed
 stops_unread status unread Refuses (inr is) = subst (λ (x : Status). StopsReading x unread Refuses) (sym is) tt
 
+-- no line that wasn't judged ends well
+pub never_done : (status : Status) (unread : Type 0) (Refuses : LogFault → Type 0) → StopsReading status unread Refuses → status ≡ Done → ⊥
+never_done status unread Refuses stops is = let none : StopsReading Done unread Refuses = subst (λ (x : Status). StopsReading x unread Refuses) is stops in none
+
 -- no line was judged yet
 pub at_head : (left ahead behind old : Option (List ℕ)) (s : ScenarioContent) (terms : Terms) (judge : LogJudge) → IsHeadRead left behind s → ahead ≡ behind
     → JudgeStands judge s terms [] → IsJudging left ahead old old s terms judge 2

@@ -3,7 +3,7 @@ use Rattle.io_edge.specs.Edge.{Appends}
 use Rattle.trace_writer.proofs.Handed.{rises_later}
 use Rattle.session_words.specs.Unread.{unread}
 use Rattle.station.specs.Judging.{JudgesNext}
-use Rattle.station.proofs.LogReports.{judge_on, judge_short, judge_whole, judged_here, still_judges, stops_here, told_log}
+use Rattle.station.proofs.LogReports.{judge_on, judge_short, judge_whole, judged_here, never_done, still_judges, stops_here, told_log}
 use Rattle.station.proofs.judging.Hearing.go_on.Goals as goal
 
 pub lines-init : goal.lines-init
@@ -23,6 +23,12 @@ returns-in-Err-clause-ends g c = λ left old s terms is.
     let so = c.lines.invariant.on.goes left old s terms is in
     stops_here s terms c.lines.self.judge c.lines.self.judge left _ (unread c.next.new.self.reader (g.S.Source.left c.next.new.source)) old _ _ [] c.lines.number so
     c.in-Err.status _ _ _ (rises_later _ _ _ c.lines.invariant.reads_kept) refl (c.next.ensures.failed c.in-Err.status c.in-Err.is)
+
+pub returns-in-Err-clause-reads : goal.returns-in-Err-clause-reads
+returns-in-Err-clause-reads g c = record {
+  kept = omega (arith, c.lines.invariant.reads_kept, c.next.ensures.kept);
+  done = λ is. absurd (never_done c.in-Err.status _ _ (c.next.ensures.failed c.in-Err.status c.in-Err.is) is);
+}
 
 pub returns-in_default : goal.returns-in_default
 returns-in_default g c = record {
@@ -71,4 +77,5 @@ lines-preserved g c = record {
 pub returns-clause-ends : goal.returns-clause-ends
 returns-clause-ends g c = λ left old s terms is.
     let so = c.lines.invariant.on.goes left old s terms is in
-    judged_here s terms c.lines.self.judge c.lines.self.judge left _ _ old _ _ [] c.lines.number so refl
+    let ahead = unread c.lines.self.reader (g.S.Source.left c.lines.source) in
+    judged_here s terms c.lines.self.judge c.lines.self.judge left ahead ahead old _ _ [] c.lines.number so refl
