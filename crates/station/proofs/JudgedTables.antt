@@ -1,6 +1,6 @@
 -- The tables of a log stay known: judged line by line, by the tables told until then, a log shows the breaches that it shows by the
 -- tables told in the end.
-use Rattle.std.proofs.Common.{◌≡◌, ◌≢◌, ◌≤◌, ◌<◌, ◌+◌, ◌∙◌, ◌==◌, ◌&&◌, ◌||◌, nat_lt, nat_le, not, ℕ, Bool, true, false, if◌then◌else◌, List, [], ◌∷◌, ◌++◌, Option, Some, None, Result, Ok, Err, is_some, unwrap_or, reverse, refl, sym, ap, subst, arith}
+use Rattle.std.proofs.Common.{◌≡◌, ◌≤◌, ◌+◌, ◌∙◌, ◌==◌, ◌&&◌, ◌||◌, nat_lt, not, ℕ, Bool, true, false, if◌then◌else◌, List, [], ◌∷◌, ◌++◌, Option, Some, None, Ok, Err, is_some, unwrap_or, reverse, refl, sym, ap, subst, arith}
 use Rattle.std.proofs.lemmas.Bool.{eqb-true, ltb-true}
 use Rattle.std.proofs.lemmas.List.{reverse-reverse}
 use Rattle.sig_types.specs.declared.frame.Colour.TheVariants.{Green, Yellow, Clear}
@@ -12,14 +12,14 @@ use Rattle.sig_tables.specs.declared.tables.Tables.{Tables}
 use Rattle.sig_tables.specs.Tables.{least_green, yellow_time, red_clear_time, walk_time, pedestrian_clear_time}
 use Rattle.trace_text.specs.declared.lines.Line.{Line}
 use Rattle.trace_text.specs.declared.lines.Line.TheVariants.{S, R, M, J, A, F, L, Z}
-use Rattle.safety_laws.specs.Safe.{Indications, dark, told, Safe, intersection_of, makes_way_for, green_due, walk_due, clearance_due}
+use Rattle.safety_laws.specs.Safe.{Indications, told, makes_way_for, green_due, walk_due, clearance_due}
 use Rattle.safety_laws.specs.Whole.{downloads}
 use Rattle.scenario_data.specs.Content.{ScenarioContent}
 use Rattle.judge_laws.specs.declared.Terms.{Terms}
 use Rattle.judge_laws.specs.declared.Breach.{Breach}
 use Rattle.judge_laws.specs.declared.Clause.TheVariants.{Apart, Order, Clearance, ShortGreen, Pedestrian, OnGreen}
 use Rattle.judge_laws.specs.Joined.{knows_last, saw_beginning}
-use Rattle.judge_laws.specs.Breaches.{exact, newest, first_of, ends, ends_wrong, lasts_at_least, lasts_at_most, yellow_lasts, clear_lasts, green_lasts, walk_lasts, flash_lasts, shows, gives, are_together, is_lit_off, is_out_of_order, breaks_order, ends_clearance_wrong, ends_green_wrong, ends_walk_wrong, breach_at, found, each, phase_breaches, frame_breaches, line_breaches, breaches_back, breaches, Below, Falls, Rising}
+use Rattle.judge_laws.specs.Breaches.{exact, newest, first_of, ends, ends_wrong, lasts_at_least, lasts_at_most, yellow_lasts, clear_lasts, green_lasts, walk_lasts, flash_lasts, shows, gives, are_together, is_lit_off, is_out_of_order, ends_clearance_wrong, ends_green_wrong, ends_walk_wrong, breach_at, found, each, phase_breaches, frame_breaches, line_breaches, breaches_back, breaches, Below, Falls, Rising}
 use Rattle.judge_laws.specs.TablesTold.{loaded, tables_told, version_told}
 use Rattle.judge_laws.proofs.Judged.{judged}
 use Rattle.judge_session.specs.Told.{has_cabinet, load_told, opening_at, in_force_told, is_known, tables_before}

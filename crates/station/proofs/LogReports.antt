@@ -1,5 +1,5 @@
 -- A log, line by line, as it is judged and reported.
-use Rattle.std.proofs.Common.{◌≡◌, ◌≢◌, ◌<◌, ◌≤◌, ◌+◌, ◌⊎◌, ◌∙◌, inl, inr, nat_le, ℕ, Bool, true, false, if◌then◌else◌, List, [], ◌∷◌, ◌++◌, length, map, filter, reverse, Option, Some, None, IfSome, Result, Ok, Err, IfOk, OnOk, append_assoc, append-nil, refl, sym, ap, subst, arith}
+use Rattle.std.proofs.Common.{◌≡◌, ◌≢◌, ◌<◌, ◌≤◌, ◌+◌, ◌⊎◌, ◌∙◌, inl, inr, nat_le, ℕ, Bool, true, false, if◌then◌else◌, List, [], ◌∷◌, ◌++◌, length, map, reverse, Option, Some, None, Result, Ok, Err, IfOk, OnOk, append_assoc, append-nil, refl, sym, ap, subst, arith}
 use Rattle.std.proofs.lemmas.Bool.{lt-leb, le-leb}
 use Rattle.std.proofs.lemmas.List.{map-append, length-append}
 use Rattle.std.proofs.lemmas.List.Elements.{filter-append}
@@ -11,13 +11,12 @@ use Rattle.trace_writer.proofs.Writing.{some_behind}
 use Rattle.trace_text.specs.declared.lines.Line.{Line}
 use Rattle.trace_text.specs.Line.{line_text}
 use Rattle.scenario_data.specs.Content.{ScenarioContent}
-use Rattle.session_words.specs.Lines.{behind_first, whole_lines}
-use Rattle.session_words.specs.Unread.{behind_told, GivesLine, HasNoLine, PassesLong}
+use Rattle.session_words.specs.Lines.{behind_first}
+use Rattle.session_words.specs.Unread.{behind_told, GivesLine, PassesLong}
 use Rattle.judge_laws.specs.declared.Terms.{Terms}
-use Rattle.judge_laws.specs.Breaches.{exact}
 use Rattle.judge_session.specs.declared.log.LogJudge.{LogJudge}
 use Rattle.judge_session.specs.Log.{IsLog, IsRead, IsFault, ended, fault_of, short_lines}
-use Rattle.judge_session.specs.Report.{log_found, log_overruns, log_report, end_report, judged_text, line_report, overruns_text, total_text}
+use Rattle.judge_session.specs.Report.{log_found, log_overruns, log_report, end_report, overruns_text, total_text}
 use Rattle.judge_session.specs.Standing.{JudgeStands, Takes}
 use Rattle.station.specs.declared.status.LogFault.{LogFault}
 use Rattle.station.specs.declared.status.Status.{Status}
@@ -25,7 +24,7 @@ use Rattle.station.specs.declared.status.Status.TheVariants.{Done, Usage, Scenar
 use Rattle.station.specs.Io.{io}
 use Rattle.station.specs.Answers.{WritesText}
 use Rattle.station.specs.Living.{AreAhead}
-use Rattle.station.specs.Judged.{AllKnown, AllSafe, AreLogLines, HasHead, JudgesShort, LogEnds, Judged}
+use Rattle.station.specs.Judged.{AreLogLines, HasHead, JudgesShort, LogEnds, Judged}
 use Rattle.station.specs.Judging.{IsHeadRead, IsJudging, JudgesNext, RefusesNext, StopsReading}
 use Rattle.station.proofs.Sessions.{appends_then, front_then, line_behind, long_line, more_ahead, none_ahead, whole_front}
 use Rattle.station.proofs.JudgedTables.{safe_of_none, none_of_safe}

@@ -1,12 +1,11 @@
 -- Lines have one reading as a log, or stop being one at one place.
-use Rattle.std.proofs.Common.{◌≡◌, ◌≢◌, ◌≤◌, ◌<◌, ◌+◌, ◌⊎◌, ◌∙◌, inl, inr, nat_le, ℕ, List, [], ◌∷◌, ◌++◌, length, map, drop, get_or, reverse, Option, Some, None, append_assoc, refl, sym, ap, subst, arith}
+use Rattle.std.proofs.Common.{◌≡◌, ◌≤◌, ◌<◌, ◌⊎◌, ◌∙◌, inl, inr, nat_le, ℕ, List, [], ◌∷◌, ◌++◌, length, map, drop, get_or, reverse, Some, None, append_assoc, refl, sym, ap, subst, arith}
 use Rattle.std.proofs.lemmas.Bool.{le-leb}
-use Rattle.std.proofs.lemmas.List.{map-append, length-append, reverse-append, reverse-reverse}
+use Rattle.std.proofs.lemmas.List.{map-append, reverse-append, reverse-reverse}
 use Rattle.std.proofs.lemmas.List.Elements.{filter-append}
 use Rattle.std.proofs.lemmas.Grind.{reverse_onto}
 use Rattle.trace_text.specs.declared.lines.Line.{Line}
 use Rattle.trace_text.specs.Line.{line_text}
-use Rattle.trace_text.specs.IsLine.{IsLine}
 use Rattle.safety_laws.specs.TraceText.{AreLines}
 use Rattle.scenario_data.specs.Content.{ScenarioContent}
 use Rattle.trace_laws.proofs.SameLines.{same_line}

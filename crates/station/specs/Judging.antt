@@ -1,5 +1,5 @@
 -- What is between two lines of a log that `judge` reads.
-use Rattle.std.specs.Prelude.{◌≡◌, ◌≤◌, ◌+◌, ◌⊎◌, ℕ, Bool, true, false, List, [], ◌∷◌, ◌++◌, length, Option, IfSome}
+use Rattle.std.specs.Prelude.{◌≡◌, ◌≤◌, ◌+◌, ◌⊎◌, ℕ, Bool, true, false, List, [], ◌∷◌, ◌++◌, length, Option}
 use Rattle.io_edge.specs.Edge.{Appends}
 use Rattle.trace_text.specs.declared.lines.Line.{Line}
 use Rattle.scenario_data.specs.Content.{ScenarioContent}
