@@ -1,11 +1,20 @@
 -- Lines that are appended one after another, and counted.
-use Rattle.std.proofs.Common.{◌≡◌, ◌∙◌, ℕ, ◌+◌, ◌-◌, ◌<◌, zero, suc, List, [], ◌∷◌, ◌++◌, length, drop, append_assoc, append-nil, sym, ap, refl, arith, subst, Result, Ok, Err, IfOk, OnOk}
-use Rattle.std.proofs.lemmas.List.{drop_more, length-append}
+use Rattle.std.proofs.Common.{◌≡◌, ◌∙◌, ℕ, ◌+◌, ◌-◌, ◌<◌, zero, suc, Bool, true, false, ◌&&◌, ◌==◌, eqb, nat_lt, List, [], ◌∷◌, ◌++◌, length, drop, append_assoc, append-nil, sym, ap, refl, arith, subst, Result, Ok, Err, IfOk, OnOk}
+use Rattle.std.proofs.lemmas.Bool.{eqb-true, false≢true}
+use Rattle.std.proofs.Math.Bool.{beq}
+use Rattle.std.proofs.lemmas.List.{length-append}
+use Rattle.std.specs.Int.{bit_at}
 use Rattle.sig_types.specs.Phases.{all_phases}
 use Rattle.judge_laws.specs.declared.Breach.{Breach}
 use Rattle.judge_laws.specs.declared.Overrun.{Overrun}
-use Rattle.judge_laws.specs.Breaches.{each}
+use Rattle.judge_laws.specs.Breaches.{each, found, breach_at}
 use Rattle.judge_laws.specs.Overrun.{each_overruns}
+use Rattle.sig_types.specs.PhaseSet.{has}
+use Rattle.judge_laws.proofs.Tests.{none-found, none-append, none-each, both-of}
+use Rattle.sig_types.specs.declared.phase_set.PhaseSet.{PhaseSet}
+use Rattle.judge_laws.specs.declared.Clause.TheVariants.{Apart, Order, Clearance, ShortGreen, Pedestrian, OnGreen}
+use Rattle.judge.specs.declared.phases.PhaseFound.{PhaseFound}
+use Rattle.judge.specs.Cabinet.{listed_breaches}
 use Rattle.judge_session.specs.Report.{breach_text, breaches_text, overrun_text, overruns_text}
 use Rattle.judge_session.specs.Standing.{Adds}
 
@@ -118,3 +127,39 @@ each-from of m some few =
     let f : m ≡ m + 1 - 1 = omega arith in
     let h : m - 1 < 16 = omega (arith, some, few) in
     each-next of (m - 1) h ∙ ap (λ (n : ℕ). of n ++ each of (drop n all_phases)) e ∙ ap (λ (n : ℕ). of m ++ each of (drop n all_phases)) f
+
+-- nothing is listed of a phase of which nothing is found
+pub clean-list : (cab tick p : ℕ) (f : PhaseFound) → ((q : ℕ) → has f.together q ≡ false) → f.lit ≡ false → f.course.order ≡ false
+    → f.course.clearance ≡ false → f.course.green ≡ false → f.course.pedestrian ≡ false → f.course.on_green ≡ false → listed_breaches cab tick p f ≡ []
+clean-list cab tick p f none lit order clear green walk on =
+    none-append (each (λ q. found (nat_lt p q && has f.together q) (breach_at cab tick Apart p q)) all_phases) _
+    (none-each (λ q. found (nat_lt p q && has f.together q) (breach_at cab tick Apart p q)) all_phases
+    (λ q i. none-found (nat_lt p q && has f.together q) (breach_at cab tick Apart p q) (either (nat_lt p q) (has f.together q) (none q))))
+    (none-append _ _ (none-found f.lit (breach_at cab tick Apart p 0) lit)
+    (none-append _ _ (none-found f.course.order (breach_at cab tick Order p 0) order)
+    (none-append _ _ (none-found f.course.clearance (breach_at cab tick Clearance p 0) clear)
+    (none-append _ _ (none-found f.course.green (breach_at cab tick ShortGreen p 0) green)
+    (none-append _ _ (none-found f.course.pedestrian (breach_at cab tick Pedestrian p 0) walk) (none-found f.course.on_green (breach_at cab tick OnGreen p 0) on))))))
+  where
+    either : (a b : Bool) → b ≡ false → (a && b) ≡ false
+    either true b e = e
+    either false b e = refl
+
+is-false : (b : Bool) → beq b false ≡ true → b ≡ false
+is-false false e = refl
+is-false true e = absurd (false≢true e)
+
+-- so of one that is the same as one of which nothing is found
+pub clean-by : (cab tick p : ℕ) (f : PhaseFound) (none : PhaseSet) → ((q : ℕ) → has none q ≡ false)
+    → (eqb f.together.0 none.0 && (beq f.lit false && (beq f.course.order false && (beq f.course.clearance false && (beq f.course.green false
+    && (beq f.course.pedestrian false && beq f.course.on_green false)))))) ≡ true → listed_breaches cab tick p f ≡ []
+clean-by cab tick p f none h e =
+    let e1 = both-of (eqb f.together.0 none.0) _ e in
+    let e2 = both-of (beq f.lit false) _ e1.1 in
+    let e3 = both-of (beq f.course.order false) _ e2.1 in
+    let e4 = both-of (beq f.course.clearance false) _ e3.1 in
+    let e5 = both-of (beq f.course.green false) _ e4.1 in
+    let e6 = both-of (beq f.course.pedestrian false) _ e5.1 in
+    let same : f.together.0 ≡ none.0 = eqb-true f.together.0 none.0 e1.0 in
+    clean-list cab tick p f (λ q. ap (λ (n : ℕ). bit_at n (q - 1) == 1) same ∙ h q) (is-false f.lit e2.0) (is-false f.course.order e3.0) (is-false f.course.clearance e4.0)
+    (is-false f.course.green e5.0) (is-false f.course.pedestrian e6.0) (is-false f.course.on_green e6.1)

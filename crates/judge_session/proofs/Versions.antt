@@ -14,12 +14,12 @@ module _ (load : ℕ → Option (List (Cell × Content))) (opening : Tables) (ca
   -- the tables in force are those of the newest version
   pub version-now : (before : List Line) → version_told load opening cab before (downloads cab before) ≡ tables_told load opening cab before
   version-now [] = refl
-  version-now (L c id (Ok made) ∷ before) = split (c == cab) refl
+  version-now (L c id (Ok made) ∷ before) = split (c == cab) refl (version-now before)
     where
-      split : (b : Bool) → (c == cab) ≡ b
+      split : (b : Bool) → (c == cab) ≡ b → version_told load opening cab before (downloads cab before) ≡ tables_told load opening cab before
           → version_told load opening cab (L c id (Ok made) ∷ before) (downloads cab (L c id (Ok made) ∷ before)) ≡ tables_told load opening cab (L c id (Ok made) ∷ before)
-      split true e = let s : (downloads cab before + 1 == downloads cab before + 1) ≡ true = eq-eqb _ _ refl in rw e (rw s refl)
-      split false e = rw e (version-now before)
+      split true e known = let s : (downloads cab before + 1 == downloads cab before + 1) ≡ true = eq-eqb _ _ refl in rw e (rw s refl)
+      split false e known = rw e known
   version-now (L c id (Err broken) ∷ before) = version-now before
   version-now (S json ∷ before) = version-now before
   version-now (F c tick veh ped mode counter target version ∷ before) = version-now before
@@ -36,16 +36,19 @@ module _ (load : ℕ → Option (List (Cell × Content))) (opening : Tables) (ca
       split : (b : Bool) → (version == 0) ≡ b → (if b then Some opening else None) ≡ Some t → version ≤ 0
       split true e g = let z : version ≡ 0 = eqb-true version 0 e in omega (arith, z)
       split false e g = absurd (none-some t g)
-  version-made (L c id (Ok made) ∷ before) version t h = split (c == cab) refl
+  version-made (L c id (Ok made) ∷ before) version t h = split (c == cab) refl h (version-made before version t)
     where
-      last : (b : Bool) → (version == downloads cab before + 1) ≡ b
+      last : (b : Bool) → (version == downloads cab before + 1) ≡ b → (version_told load opening cab before version ≡ Some t → version ≤ downloads cab before)
           → (if b then loaded (load id) (tables_told load opening cab before) else version_told load opening cab before version) ≡ Some t → version ≤ downloads cab before + 1
-      last true e g = let z : version ≡ downloads cab before + 1 = eqb-true version _ e in omega (arith, z)
-      last false e g = let z : version ≤ downloads cab before = version-made before version t g in omega (arith, z)
+      last true e known g = let z : version ≡ downloads cab before + 1 = eqb-true version _ e in omega (arith, z)
+      last false e known g = let z : version ≤ downloads cab before = known g in omega (arith, z)
 
-      split : (b : Bool) → (c == cab) ≡ b → version ≤ (if b then downloads cab before + 1 else downloads cab before)
-      split true e = last (version == downloads cab before + 1) refl (rw e at h h)
-      split false e = version-made before version t (rw e at h h)
+      split : (b : Bool) → (c == cab) ≡ b
+          → (if b && version == downloads cab before + 1 then loaded (load id) (tables_told load opening cab before) else version_told load opening cab before version) ≡ Some t
+          → (version_told load opening cab before version ≡ Some t → version ≤ downloads cab before)
+          → version ≤ (if b then downloads cab before + 1 else downloads cab before)
+      split true e g known = last (version == downloads cab before + 1) refl known g
+      split false e g known = known g
   version-made (L c id (Err broken) ∷ before) version t h = version-made before version t h
   version-made (S json ∷ before) version t h = version-made before version t h
   version-made (F c tick veh ped mode counter target v ∷ before) version t h = version-made before version t h

@@ -24,15 +24,15 @@ use Rattle.judge.specs.Cabinet.{AllFollow, ShowsAll}
 use Rattle.judge.specs.InForce.{IsInForce}
 use Rattle.judge_session.specs.declared.watch.CabinetWatch.{CabinetWatch}
 use Rattle.judge_session.specs.Told.{load_told, opening_at, in_force_told, is_known, tables_before}
+use Rattle.judge_laws.specs.Overrun.{cabinet_overruns}
+use Rattle.judge_laws.specs.declared.Overrun.{Overrun}
+use Rattle.judge_session.specs.Report.{line_found, overruns_at, overruns_text}
 use Rattle.judge_session.specs.Standing.{AreTold, JudgesBy, WatchStands, last_of}
 use Rattle.judge_session.proofs.Versions.{version-now, version-kept}
 
 -- what is shown at a frame line
 abbrev pub shown : ℕ → List Colour → List Ped → Mode → ℕ → ℕ × Indications
 shown tick veh ped mode version = (tick, record { colours = veh; signals = ped; mode = mode; version = version })
-
-pub some-same : {A : Type 0} (x y : A) → Some x ≡ Some y → x ≡ y
-some-same x y e = ap (λ (o : Option A). unwrap_or o x) e
 
 -- the tables that are told are told
 pub are-told : (s : ScenarioContent) (cab : ℕ) (before : List Line) → AreTold s cab before (tables_before s before cab)
@@ -51,18 +51,18 @@ in-force-by s cab before tables t all e =
     all (downloads cab before) t (version-now (load_told s cab) (opening_at s cab) cab before ∙ e)
 
 -- of tables that are known
-pub known-some : {A : Type 0} (o : Option A) → is_some o ≡ true → (x : A) × (o ≡ Some x)
+pub known-some : {T : Type 0} (o : Option T) → is_some o ≡ true → (x : T) × (o ≡ Some x)
 known-some (Some x) e = (x, refl)
 known-some None e = absurd (false≢true e)
 
-pub if-some : {A : Type 0} (P : A → Type 0) (o : Option A) (x : A) → o ≡ Some x → IfSome o P → P x
-if-some P o x e h = subst (λ (p : Option A). IfSome p P) e h
+pub if-some : {T : Type 0} (P : T → Type 0) (o : Option T) (x : T) → o ≡ Some x → IfSome o P → P x
+if-some P o x e h = subst (λ p. IfSome p P) e h
 
-pub some-if : {A : Type 0} (P : A → Type 0) (o : Option A) → ((x : A) → o ≡ Some x → P x) → IfSome o P
+pub some-if : {T : Type 0} (P : T → Type 0) (o : Option T) → ((x : T) → o ≡ Some x → P x) → IfSome o P
 some-if P (Some x) f = f x refl
 some-if P None f = tt
 
-pub unknown-none : {A : Type 0} (P : A → Type 0) (o : Option A) → is_some o ≡ false → IfSome o P
+pub unknown-none : {T : Type 0} (P : T → Type 0) (o : Option T) → is_some o ≡ false → IfSome o P
 unknown-none P None e = tt
 unknown-none P (Some x) e = absurd (false≢true (sym e))
 
@@ -160,6 +160,14 @@ frame-shows w s joined cab tick veh ped mode before so known =
       },
     )
 
+-- what an accepted load of the cabinet does
+pub own-load : (s : ScenarioContent) (cab id made : ℕ) (before : List Line)
+    → in_force_told s cab (L cab id (Ok made) ∷ before) ≡ loaded (load_told s cab id) (in_force_told s cab before)
+own-load s cab id made before = let own : (cab == cab) ≡ true = eq-eqb cab cab refl in rw own refl
+
+pub own-count : (cab id made : ℕ) (before : List Line) → downloads cab (L cab id (Ok made) ∷ before) ≡ downloads cab before + 1
+own-count cab id made before = let own : (cab == cab) ≡ true = eq-eqb cab cab refl in rw own refl
+
 -- a load of the cabinet that the scenario has
 pub load-known : (w new : CabinetWatch) (s : ScenarioContent) (joined : Bool) (cab id made : ℕ) (before : List Line) (cells : List (Cell × Content))
     → WatchStands w s joined cab before → w.known ≡ true → load_told s cab id ≡ Some cells
@@ -167,12 +175,13 @@ pub load-known : (w new : CabinetWatch) (s : ScenarioContent) (joined : Bool) (c
     → IsInForce new.in_force (with_cells w.in_force.tables cells)
     → WatchStands new s joined cab (L cab id (Ok made) ∷ before)
 load-known w new s joined cab id made before cells so known has v k l j f =
-    let own : (cab == cab) ≡ true = eq-eqb cab cab refl in
     let (t, is) = known-some (in_force_told s cab before) (sym so.known ∙ known) in
-    let now : in_force_told s cab (L cab id (Ok made) ∷ before) ≡ Some (with_cells t cells) = rw own (rw has (rw is refl)) in
+    let now : in_force_told s cab (L cab id (Ok made) ∷ before) ≡ Some (with_cells t cells)
+    = own-load s cab id made before ∙ ap (λ (o : Option (List (Cell × Content))). loaded o (in_force_told s cab before)) has
+    ∙ ap (λ (o : Option Tables). loaded (Some cells) o) is in
     let was : IsInForce w.in_force t = if-some (IsInForce w.in_force) (in_force_told s cab before) t is so.in_force in
     record {
-      version = rw own v;
+      version = v ∙ sym (own-count cab id made before);
       last = l ∙ so.last;
       known = k ∙ known ∙ sym (ap is_some now);
       in_force = subst (λ (o : Option Tables). IfSome o (IsInForce new.in_force)) (sym now)
@@ -188,10 +197,9 @@ pub load-unknown : (w new : CabinetWatch) (s : ScenarioContent) (joined : Bool) 
     → new.version ≡ downloads cab before + 1 → new.known ≡ false → new.last ≡ w.last
     → WatchStands new s joined cab (L cab id (Ok made) ∷ before)
 load-unknown w new s joined cab id made before so none v k l =
-    let own : (cab == cab) ≡ true = eq-eqb cab cab refl in
-    let now : in_force_told s cab (L cab id (Ok made) ∷ before) ≡ None = rw own none in
+    let now : in_force_told s cab (L cab id (Ok made) ∷ before) ≡ None = own-load s cab id made before ∙ none in
     record {
-      version = rw own v;
+      version = v ∙ sym (own-count cab id made before);
       last = l ∙ so.last;
       known = k ∙ sym (ap is_some now);
       in_force = subst (λ (o : Option Tables). IfSome o (IsInForce new.in_force)) (sym now) tt;
@@ -206,3 +214,28 @@ loaded-none cells (Some t) e = absurd (false≢true (sym e))
 pub loaded-missing : (t : Option Tables) → loaded None t ≡ None
 loaded-missing None = refl
 loaded-missing (Some t) = refl
+
+-- the breaches that a frame shows are those that its cabinet's judge finds
+pub found-known : (s : ScenarioContent) (terms : Terms) (before : List Line) (cab tick : ℕ) (veh : List Colour) (ped : List Ped) (mode : Mode)
+    (counter target version : ℕ) → is_known s cab before ≡ true
+    → line_found s terms before (F cab tick veh ped mode counter target version)
+    ≡ frame_breaches terms cab (tables_before s before cab) (told cab before) (shown tick veh ped mode version)
+found-known s terms before cab tick veh ped mode counter target version e = rw e refl
+
+pub found-unknown : (s : ScenarioContent) (terms : Terms) (before : List Line) (cab tick : ℕ) (veh : List Colour) (ped : List Ped) (mode : Mode)
+    (counter target version : ℕ) → is_known s cab before ≡ false → line_found s terms before (F cab tick veh ped mode counter target version) ≡ []
+found-unknown s terms before cab tick veh ped mode counter target version e = rw e refl
+
+pub over-known : (s : ScenarioContent) (terms : Terms) (tick : ℕ) (before : List Line) (cab : ℕ) → is_known s cab before ≡ true
+    → overruns_at s terms tick before cab ≡ cabinet_overruns terms.tolerance (tables_before s before) tick before cab
+over-known s terms tick before cab e = rw e refl
+
+pub over-unknown : (s : ScenarioContent) (terms : Terms) (tick : ℕ) (before : List Line) (cab : ℕ) → is_known s cab before ≡ false
+    → overruns_at s terms tick before cab ≡ []
+over-unknown s terms tick before cab e = rw e refl
+
+pub judged-known : (w : CabinetWatch) (s : ScenarioContent) (joined : Bool) (cab : ℕ) (before : List Line) → WatchStands w s joined cab before → w.known ≡ true
+    → AllFollow w.judge joined (tables_before s before cab) (told cab before)
+judged-known w s joined cab before so known =
+    let (t, is) = known-some (in_force_told s cab before) (sym so.known ∙ known) in
+    if-some (λ t. JudgesBy w.judge s joined cab before) (in_force_told s cab before) t is so.judged (tables_before s before cab) (are-told s cab before)

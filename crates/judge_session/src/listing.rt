@@ -10,7 +10,7 @@ ghost use Rattle.judge_session.specs.Report.{overruns_text};
 ghost use Rattle.judge_session.specs.Standing.{Adds};
 
 use crate::texts::{put_breach, put_overrun};
-use judge::{PhaseFound, PhaseOverruns};
+use judge::{CourseFound, PhaseFound, PhaseOverruns};
 use judge_laws::{Breach, Clause, Light, Overrun};
 use sig_types::{NoMemory, PhaseSet};
 
@@ -79,11 +79,18 @@ fn put_pairs(
 fn is_clean(found: PhaseFound) -> bool
     ensures { IsTrue result → (cab tick p : ℕ) → listed_breaches cab tick p found ≡ [] }
 {
-    let course = found.course;
-    let none = PhaseSet::empty();
-    let apart = found.together == none && !found.lit;
-    let lasts = !course.clearance && !course.green && !course.pedestrian;
-    apart && lasts && !course.order && !course.on_green
+    let nothing = PhaseFound {
+        together: PhaseSet::empty(),
+        lit: false,
+        course: CourseFound {
+            order: false,
+            clearance: false,
+            green: false,
+            pedestrian: false,
+            on_green: false,
+        },
+    };
+    found == nothing
 }
 
 /// Appends the lines of what is found of a phase, by clause.

@@ -47,8 +47,9 @@ impl LogJudge {
         };
         for cabinet in &scenario.cabinets {
             let watch = CabinetWatch::new(&opening_tables(cabinet), terms.joined);
-            if cabinets.push(watch).is_err() {
-                return Err(NoMemory);
+            match cabinets.push(watch) {
+                Ok(()) => {}
+                Err(_) => return Err(NoMemory),
             }
         }
         let Ok(line) = Vec::with_capacity(alloc, LONGEST) else {
@@ -205,17 +206,13 @@ impl LogJudge {
             Some(fault) => return Err(NotTaken::Refused(fault)),
             None => {}
         }
-        match load_of(self.scenario.loads.as_slice(), cab, id) {
-            Some(load) => self.cabinets[k].put_load(version, load),
-            None => {
-                if self.cabinets[k]
-                    .put_unknown_load(out, cab, id, version)
-                    .is_err()
-                {
-                    return Err(NotTaken::NoMemory);
-                }
-            }
-        }
+        let Some(load) = load_of(self.scenario.loads.as_slice(), cab, id) else {
+            return match self.cabinets[k].put_unknown_load(out, cab, id, version) {
+                Ok(()) => Ok(()),
+                Err(NoMemory) => Err(NotTaken::NoMemory),
+            };
+        };
+        self.cabinets[k].put_load(version, load);
         Ok(())
     }
 }

@@ -1,11 +1,11 @@
-use Rattle.std.proofs.Common.{◌≡◌, ◌+◌, ◌-◌, ◌&&◌, nat_lt, ℕ, Bool, List, drop, ap, arith, subst}
+use Rattle.std.proofs.Common.{◌+◌, ◌-◌, ◌&&◌, nat_lt, ℕ, Bool, List, drop, arith, subst}
 use Rattle.sig_types.specs.Phases.{all_phases}
 use Rattle.sig_types.specs.PhaseSet.{has}
 use Rattle.judge_laws.specs.declared.Breach.{Breach}
 use Rattle.judge_laws.specs.declared.Clause.TheVariants.{Apart}
 use Rattle.judge_laws.specs.Breaches.{found, breach_at, each}
 use Rattle.judge_session.specs.Standing.{Adds}
-use Rattle.judge_session.proofs.Adding.{leaves-next, leaves-none, each-from}
+use Rattle.judge_session.proofs.Adding.{leaves-next, each-from}
 use Rattle.judge_session.proofs.listing.put_pairs.Goals as goal
 
 pub loop-other-preserved : goal.loop-other-preserved

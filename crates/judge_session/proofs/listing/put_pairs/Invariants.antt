@@ -1,4 +1,4 @@
-use Rattle.std.proofs.Common.{ℕ, ◌-◌, ◌&&◌, nat_lt, drop}
+use Rattle.std.proofs.Common.{◌-◌, ◌&&◌, nat_lt, drop}
 use Rattle.sig_types.specs.Phases.{all_phases}
 use Rattle.sig_types.specs.PhaseSet.{has}
 use Rattle.judge_laws.specs.declared.Clause.TheVariants.{Apart}

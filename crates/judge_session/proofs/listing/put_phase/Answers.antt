@@ -1,7 +1,4 @@
-use Rattle.std.proofs.Common.{List, sym, subst}
-use Rattle.judge_laws.specs.declared.Breach.{Breach}
-use Rattle.judge_session.specs.Standing.{Adds}
-use Rattle.judge_session.proofs.Adding.{adds-none, adds-then, if-ok-then}
+use Rattle.judge_session.proofs.Adding.{adds-then, if-ok-then}
 use Rattle.judge_session.proofs.listing.put_phase.Goals as goal
 
 pub returns : goal.returns
