@@ -25,8 +25,8 @@ For everyone who looks up a command, an option, its unit or its default, or an e
 PROGRAM = """\
 [GUARANTEES.md](GUARANTEES.md) says what is proved of these commands, and [TESTING.md](TESTING.md) what is only tested.
 Options are given in the order shown; numbers are decimal digits without a sign and without a leading zero. The
-launcher `./arterial` also accepts the name of a file in place of `< FILE` after `run`, `check`, `overlaps`, `band` and
-`respond`.
+launcher `./arterial` also accepts the name of a file in place of `< FILE` after `run`, `check`, `overlaps`, `judge`,
+`band` and `respond`.
 """
 
 
