@@ -1,5 +1,5 @@
 -- What is kept of a log, one line after another.
-use Rattle.std.proofs.Common.{◌≡◌, ◌≢◌, ◌∙◌, ℕ, ◌+◌, ◌-◌, ◌<◌, ◌≤◌, ◌==◌, ◌&&◌, nat_lt, nat_le, not, zero, suc, Bool, true, false, if◌then◌else◌, List, [], ◌∷◌, ◌++◌, length, get_or, slice_set, max, Option, Some, None, is_none, option_map, map, slice_get, Result, Ok, Err, sym, ap, refl, arith, subst, inl, inr, append-nil, length-set, get_or-set_same, get_or-set_other}
+use Rattle.std.proofs.Common.{◌≡◌, ◌≢◌, ◌∙◌, ℕ, ◌+◌, ◌-◌, ◌<◌, ◌≤◌, ◌==◌, ◌&&◌, not, zero, suc, Bool, true, false, if◌then◌else◌, List, [], ◌∷◌, ◌++◌, length, get_or, slice_set, max, Option, Some, None, is_none, option_map, map, slice_get, Ok, Err, sym, ap, refl, arith, subst, inl, inr, append-nil, length-set, get_or-set_same, get_or-set_other}
 use Rattle.std.proofs.lemmas.Bool.{eqb-true, false≢true, cases_lt}
 use Rattle.std.proofs.lemmas.Bool.Decides.{eqb_tells}
 use Rattle.std.proofs.lemmas.List.{length-append, get_or_append_left}
@@ -10,7 +10,7 @@ use Rattle.sig_types.specs.declared.frame.Ped.{Ped}
 use Rattle.sig_types.specs.declared.frame.Mode.{Mode}
 use Rattle.trace_text.specs.declared.lines.Line.{Line}
 use Rattle.trace_text.specs.declared.lines.Line.TheVariants.{S, F, R, M, J, L, A, Z}
-use Rattle.safety_laws.specs.Safe.{Indications, told}
+use Rattle.safety_laws.specs.Safe.{told}
 use Rattle.safety_laws.specs.Whole.{downloads}
 use Rattle.scenario_data.specs.declared.scenario.Cabinet.{Cabinet}
 use Rattle.scenario_data.specs.Content.{ScenarioContent, scenario_content, cabinet_content}
@@ -26,7 +26,7 @@ use Rattle.sig_tables.specs.declared.cells.Cell.{Cell}
 use Rattle.sig_tables.specs.Cells.{Content}
 use Rattle.judge_session.specs.Told.{has_cabinet, load_told, is_known, opening_or}
 use Rattle.judge_session.specs.Log.{IsRead, IsFault, fault_of, frame_fault, load_fault, is_later}
-use Rattle.judge_session.specs.Report.{line_found, log_found, breaches_text, unknown_by, unknown_text, line_report, numbers_from}
+use Rattle.judge_session.specs.Report.{line_found, log_found, breaches_text, unknown_by, unknown_text, numbers_from}
 use Rattle.judge_session.specs.Standing.{WatchStands, JudgeStands, FollowsOn, Adds}
 use Rattle.judge_session.proofs.Watching.{other-frame, other-load}
 

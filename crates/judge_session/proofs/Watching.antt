@@ -1,7 +1,6 @@
 -- What is kept of a cabinet, one line after another.
-use Rattle.std.proofs.Common.{◌≡◌, ◌≢◌, ◌∙◌, ℕ, ◌+◌, ◌-◌, ◌<◌, ◌≤◌, ◌==◌, ◌&&◌, nat_lt, nat_le, not, zero, suc, Bool, true, false, if◌then◌else◌, List, [], ◌∷◌, ◌++◌, length, get_or, max, Option, Some, None, Ok, Err, IfSome, is_some, sym, ap, refl, arith, subst, inl, inr, unwrap_or, append-nil}
-use Rattle.std.proofs.lemmas.Bool.{eq-eqb, eqb-true, false≢true}
-use Rattle.std.proofs.lemmas.Bool.Decides.{eqb_tells}
+use Rattle.std.proofs.Common.{◌≡◌, ◌∙◌, ℕ, ◌+◌, ◌==◌, Bool, true, false, List, [], ◌∷◌, Option, Some, None, Ok, IfSome, is_some, sym, ap, refl, subst, unwrap_or}
+use Rattle.std.proofs.lemmas.Bool.{eq-eqb, false≢true}
 use Rattle.sig_types.specs.declared.frame.Colour.{Colour}
 use Rattle.sig_types.specs.declared.frame.Ped.{Ped}
 use Rattle.sig_types.specs.declared.frame.Mode.{Mode}
@@ -10,14 +9,13 @@ use Rattle.sig_tables.specs.Cells.{Content}
 use Rattle.sig_tables.specs.Putting.{with_cells}
 use Rattle.sig_tables.specs.declared.tables.Tables.{Tables}
 use Rattle.trace_text.specs.declared.lines.Line.{Line}
-use Rattle.trace_text.specs.declared.lines.Line.TheVariants.{S, F, R, M, J, L, A, Z}
+use Rattle.trace_text.specs.declared.lines.Line.TheVariants.{F, L}
 use Rattle.safety_laws.specs.Safe.{Indications, told}
 use Rattle.safety_laws.specs.Whole.{downloads}
 use Rattle.scenario_data.specs.Content.{ScenarioContent}
 use Rattle.judge_laws.specs.declared.Terms.{Terms}
-use Rattle.judge_laws.specs.declared.Breach.{Breach}
-use Rattle.judge_laws.specs.Breaches.{within, frame_breaches}
-use Rattle.judge_laws.specs.TablesTold.{loaded, tables_told, version_told}
+use Rattle.judge_laws.specs.Breaches.{frame_breaches}
+use Rattle.judge_laws.specs.TablesTold.{loaded}
 use Rattle.judge.specs.declared.cabinet.CabinetJudge.{CabinetJudge}
 use Rattle.judge.specs.declared.in_force.InForce.{InForce}
 use Rattle.judge.specs.Cabinet.{AllFollow, ShowsAll}
@@ -25,8 +23,7 @@ use Rattle.judge.specs.InForce.{IsInForce}
 use Rattle.judge_session.specs.declared.watch.CabinetWatch.{CabinetWatch}
 use Rattle.judge_session.specs.Told.{load_told, opening_at, in_force_told, is_known, tables_before}
 use Rattle.judge_laws.specs.Overrun.{cabinet_overruns}
-use Rattle.judge_laws.specs.declared.Overrun.{Overrun}
-use Rattle.judge_session.specs.Report.{line_found, overruns_at, overruns_text}
+use Rattle.judge_session.specs.Report.{line_found, overruns_at}
 use Rattle.judge_session.specs.Standing.{AreTold, JudgesBy, WatchStands, last_of}
 use Rattle.judge_session.proofs.Versions.{version-now, version-kept}
 

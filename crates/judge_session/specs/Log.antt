@@ -1,5 +1,5 @@
 -- Which lines are a log, and why a log stops. Lists of read lines have the newest line first.
-use Rattle.std.specs.Prelude.{ℕ, ◌≡◌, ◌≢◌, ◌+◌, ◌≤◌, ◌==◌, nat_lt, nat_le, not, true, if◌then◌else◌, Bool, List, [], ◌∷◌, ◌++◌, length, map, filter, reverse, Option, Some, None, Ok}
+use Rattle.std.specs.Prelude.{ℕ, ◌≡◌, ◌+◌, ◌≤◌, ◌==◌, nat_lt, nat_le, not, true, if◌then◌else◌, Bool, List, [], ◌∷◌, ◌++◌, length, map, filter, reverse, Option, Some, None, Ok}
 use Rattle.trace_text.specs.declared.lines.Line.{Line}
 use Rattle.trace_text.specs.declared.lines.Line.TheVariants.{F, L}
 use Rattle.trace_text.specs.IsLine.{IsLine}
@@ -46,7 +46,13 @@ Follow s (line ∷ before) = (fault_of s before line ≡ None) × Follow s befor
 abbrev pub ended : List ℕ → List ℕ
 ended bytes = bytes ++ 10 ∷ []
 
--- the lines of at most 4,096 bytes. Longer ones are ignored: none of them is a frame or the end of a load
+-- what is judged: a frame, or an accepted load
+abbrev pub IsJudged : Line → Type 0
+IsJudged (F cab tick veh ped mode counter target version) = Unit {0}
+IsJudged (L cab id (Ok version)) = Unit {0}
+IsJudged _ = ⊥
+
+-- the lines of at most 4,096 bytes. Longer ones are ignored: none of them is judged
 abbrev pub short_lines : List (List ℕ) → List (List ℕ)
 short_lines lines = filter (λ line. nat_le (length line) 4096) lines
 

@@ -1,5 +1,5 @@
 -- What is reported of a log, line by line and at its end. Lists of lines have the newest line first.
-use Rattle.std.specs.Prelude.{ℕ, zero, suc, ◌+◌, ◌&&◌, is_none, if◌then◌else◌, Bool, List, [], ◌∷◌, ◌++◌, length, codes, decimal, Ok}
+use Rattle.std.specs.Prelude.{ℕ, zero, suc, ◌+◌, ◌&&◌, is_none, if◌then◌else◌, List, [], ◌∷◌, ◌++◌, length, codes, decimal, Ok}
 use Rattle.trace_text.specs.declared.lines.Line.{Line}
 use Rattle.trace_text.specs.declared.lines.Line.TheVariants.{F, L}
 use Rattle.trace_text.specs.Words.{line_of}

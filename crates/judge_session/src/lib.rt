@@ -3,6 +3,7 @@
 #![tactic(auto)]
 
 mod faults;
+mod laws;
 mod listing;
 mod loads;
 mod log;
@@ -10,4 +11,5 @@ mod texts;
 mod watch;
 
 pub use faults::{LineFault, NotTaken};
+pub use laws::{a_log_without_breaches_is_safe, judged_lines_are_short};
 pub use log::LogJudge;

@@ -17,8 +17,8 @@ loop-k-preserved c = λ s terms before so.
     let below : k < length s.cabinets = omega (arith, so.many) in
     let at : WatchStands c.index.result.now s j.terms.joined (k + 1) before = here j s j.terms before k (k + 1) c.index.result.now own refl below c.index.ensures in
     let told : c.overruns.new.out.items ≡ c.loop-k.out.items ++ overruns_text (of (k + 1)) = c.in_ok-overruns.ensures {u = tt} s before at
-        ∙ ap (λ (t : Terms). c.loop-k.out.items ++ overruns_text (overruns_at s t j.last before (k + 1))) so.by
-        ∙ ap (λ (n : ℕ). c.loop-k.out.items ++ overruns_text (overruns_at s terms n before (k + 1))) so.last in
+    ∙ ap (λ (t : Terms). c.loop-k.out.items ++ overruns_text (overruns_at s t j.last before (k + 1))) so.by
+    ∙ ap (λ (n : ℕ). c.loop-k.out.items ++ overruns_text (overruns_at s terms n before (k + 1))) so.last in
     over-next c.args.out.now.items c.loop-k.out.items c.overruns.new.out.items (log_overruns s terms before)
     (each_overruns of (numbers_from (k + 1) (length s.cabinets - k))) (of (k + 1)) (each_overruns of (numbers_from (k + 1 + 1) (length s.cabinets - (k + 1))))
     (ap (λ (ns : List ℕ). each_overruns of ns) (numbers-next k (length s.cabinets) below)) (c.loop-k.invariant s terms before so) told

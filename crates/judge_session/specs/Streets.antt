@@ -1,0 +1,14 @@
+-- The streets that a log shows. Lists of lines have the newest line first.
+use Rattle.std.specs.Prelude.{ℕ, ◌≡◌, true, List, reverse}
+use Rattle.trace_text.specs.declared.lines.Line.{Line}
+use Rattle.safety_laws.specs.Safe.{Safe, intersection_of}
+use Rattle.scenario_data.specs.Content.{ScenarioContent}
+use Rattle.judge_session.specs.Told.{is_known, tables_before}
+
+-- the tables of each cabinet are known to the end of the log: each accepted load is one of the scenario
+abbrev pub AllKnown : ScenarioContent → List Line → Type 0
+AllKnown s before = (cab : ℕ) → is_known s cab before ≡ true
+
+-- by the lines, and the tables that they bring into force, the street of each cabinet is safe
+abbrev pub AllSafe : ScenarioContent → List Line → Type 0
+AllSafe s before = (cab : ℕ) → Safe (intersection_of cab (tables_before s before cab) (reverse before))
