@@ -6,7 +6,6 @@ mod OverlapDue
 mod Telling
 mod Sessions
 mod LiveDue
-mod JudgedTables
 mod LogReports
 mod Logs
 mod JudgeDue

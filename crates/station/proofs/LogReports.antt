@@ -27,7 +27,7 @@ use Rattle.station.specs.Living.{AreAhead}
 use Rattle.station.specs.Judged.{AreLogLines, HasHead, JudgesShort, LogEnds, Judged}
 use Rattle.station.specs.Judging.{IsHeadRead, IsJudging, JudgesNext, RefusesNext, StopsReading}
 use Rattle.station.proofs.Sessions.{appends_then, front_then, line_behind, long_line, more_ahead, none_ahead, whole_front}
-use Rattle.station.proofs.JudgedTables.{safe_of_none, none_of_safe}
+use Rattle.judge_session.proofs.KnownTables.{safe_of_none, none_of_safe}
 
 -- the lines of a log, and one more: a line of at most 4,096 bytes counts, and a longer one is ignored
 one_line : (line : List ℕ) (b : Bool) → nat_le (length line) 4096 ≡ b → short_lines (line ∷ []) ≡ (if b then line ∷ [] else [])

@@ -11,7 +11,7 @@ use Rattle.scenario_read.specs.Answers.{IsScenario, IsFirstFault}
 use Rattle.session_words.specs.Lines.{first_line, behind_first, whole_lines}
 use Rattle.judge_laws.specs.declared.Terms.{Terms}
 use Rattle.judge_laws.specs.Breaches.{exact}
-use Rattle.judge_session.specs.Told.{is_known, tables_before}
+use Rattle.judge_session.specs.Streets.{AllKnown, AllSafe}
 use Rattle.judge_session.specs.Log.{IsLog, LogStops}
 use Rattle.judge_session.specs.Report.{log_found, log_report, judged_text}
 use Rattle.station.specs.declared.status.LogFault.{LogFault}
@@ -59,14 +59,6 @@ pub record JudgesWhole (terms : Terms) (left old new : Option (List ℕ)) (s : S
   pub all : AreLogLines left lines
   pub log : IsLog s lines before
   pub written : Appends old new (judged_text s terms before)
-
--- the tables of each cabinet are known to the end of the log: each accepted load is one of the scenario
-abbrev pub AllKnown : ScenarioContent → List Line → Type 0
-AllKnown s before = (cab : ℕ) → is_known s cab before ≡ true
-
--- by the lines, the street of each cabinet is safe
-abbrev pub AllSafe : ScenarioContent → List Line → Type 0
-AllSafe s before = (cab : ℕ) → Safe (intersection_of cab (tables_before s before cab) (reverse before))
 
 -- a log without a breach: judged to the tick and from tick 0 on, with all tables known, the street of each cabinet is safe
 pub record IsSafeLog (terms : Terms) (left old new : Option (List ℕ)) (s : ScenarioContent) : Type 0 where
