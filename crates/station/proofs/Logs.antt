@@ -81,7 +81,7 @@ follow_after : (s : ScenarioContent) (xs ys : List Line) → Follow s (xs ++ ys)
 follow_after s [] ys follow = follow
 follow_after s (x ∷ xs) ys (first, follow) = follow_after s xs ys follow
 
--- a fault is that the bytes are no line, or one of the line that they are
+-- a fault is that the bytes are not a line, or one of the line that they are
 fault_is : (s : ScenarioContent) (before : List Line) (bytes : List ℕ) (fault : LineFault) → IsFault s before bytes fault
     → ((fault ≡ NotALine) × ((line : Line) → IsRead bytes line → ⊥)) ⊎ ((line : Line) × IsRead bytes line × (fault_of s before line ≡ Some fault))
 fault_is s before bytes NotALine is = inl (refl, is)

@@ -1,9 +1,8 @@
 -- What an answer to `judge` says about the input and the output.
-use Rattle.std.specs.Prelude.{◌≡◌, ◌≢◌, ◌<◌, ◌+◌, ◌⊎◌, ℕ, true, List, [], ◌∷◌, ◌++◌, reverse, length, Option, IfSome}
+use Rattle.std.specs.Prelude.{◌≡◌, ◌≢◌, ◌<◌, ◌+◌, ◌⊎◌, ℕ, List, [], ◌∷◌, ◌++◌, length, Option, IfSome}
 use Rattle.io_edge.specs.Edge.{Appends}
 use Rattle.trace_writer.specs.Bytes.{AppendsFront}
 use Rattle.trace_text.specs.declared.lines.Line.{Line}
-use Rattle.safety_laws.specs.Safe.{Safe, intersection_of}
 use Rattle.scenario_data.specs.declared.refusal.Refusal.{Refusal}
 use Rattle.scenario_data.specs.declared.refusal.Refusal.TheVariants.{Syntax}
 use Rattle.scenario_data.specs.Content.{ScenarioContent}
