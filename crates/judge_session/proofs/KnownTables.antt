@@ -28,7 +28,7 @@ use Rattle.judge_session.specs.Report.{line_found, log_found}
 use Rattle.judge_session.specs.Streets.{AllKnown, AllSafe}
 
 -- the versions that a cabinet's lines have are at most this one
-abbrev AtMost : ℕ → List (ℕ × Indications) → Type 0
+abbrev pub AtMost : ℕ → List (ℕ × Indications) → Type 0
 AtMost n [] = Unit {0}
 AtMost n (line ∷ older) = (line.1.version ≤ n) × AtMost n older
 
@@ -121,11 +121,11 @@ module _ (terms : Terms) (cab : ℕ) (tables other : ℕ → Tables) (n : ℕ) (
         ∙ (ap (λ (b : Bool). listed p (other line.1.version) (ends_clearance_wrong terms other p older line) b (ends_walk_wrong terms tables p older line)) (green_same p)
         ∙ ap (λ (b : Bool). listed p (other line.1.version) (ends_clearance_wrong terms other p older line) (ends_green_wrong terms other p older line) b) (walk_same p)))
 
-    frame_same : frame_breaches terms cab tables older line ≡ frame_breaches terms cab other older line
+    pub frame_same : frame_breaches terms cab tables older line ≡ frame_breaches terms cab other older line
     frame_same = each_same (phase_breaches terms cab tables older line) (phase_breaches terms cab other older line) phase_same all_phases
 
 -- a further line changes the tables of no version that is there
-stays : (load : ℕ → Option (List (Cell × Content))) (opening : Tables) (cab : ℕ) (line : Line) (before : List Line) (version : ℕ) → version ≤ downloads cab before
+pub stays : (load : ℕ → Option (List (Cell × Content))) (opening : Tables) (cab : ℕ) (line : Line) (before : List Line) (version : ℕ) → version ≤ downloads cab before
     → version_told load opening cab (line ∷ before) version ≡ version_told load opening cab before version
 stays load opening cab (L c id (Ok made)) before version few =
     split (c == cab) (version == downloads cab before + 1) (eqb-above version (downloads cab before) few)
@@ -178,7 +178,7 @@ is_below tick [] later = tt
 is_below tick (line ∷ older) later = ltb-true line.0 tick later
 
 -- the ticks of lines that follow one another fall, and their versions are at most the number of accepted loads
-falls : (s : ScenarioContent) (cab : ℕ) (before : List Line) → Follow s before → Falls (told cab before) × AtMost (downloads cab before) (told cab before)
+pub falls : (s : ScenarioContent) (cab : ℕ) (before : List Line) → Follow s before → Falls (told cab before) × AtMost (downloads cab before) (told cab before)
 falls s cab [] follow = (tt, tt)
 falls s cab (F c tick veh ped mode counter target version ∷ before) (first, rest) = split (c == cab) refl (falls s cab before rest)
   where
@@ -213,7 +213,7 @@ loaded_some true None (Some t) known = refl
 loaded_some true None None known = absurd (cc)
 loaded_some false cells t known = known
 
-known_before : (s : ScenarioContent) (cab : ℕ) (line : Line) (before : List Line) → is_known s cab (line ∷ before) ≡ true → is_known s cab before ≡ true
+pub known_before : (s : ScenarioContent) (cab : ℕ) (line : Line) (before : List Line) → is_known s cab (line ∷ before) ≡ true → is_known s cab before ≡ true
 known_before s cab (L c id (Ok made)) before known = loaded_some (c == cab) (load_told s cab id) (in_force_told s cab before) known
 known_before s cab (L c id (Err e)) before known = known
 known_before s cab (S json) before known = known

@@ -4,3 +4,4 @@ pub mod Watching
 pub mod Judging
 pub mod KnownTables
 pub mod Lengths
+pub mod KnownParts

@@ -1,5 +1,5 @@
 -- The streets that a log shows. Lists of lines have the newest line first.
-use Rattle.std.specs.Prelude.{ℕ, ◌≡◌, true, List, reverse}
+use Rattle.std.specs.Prelude.{ℕ, ◌≡◌, true, if◌then◌else◌, List, [], ◌∷◌, reverse}
 use Rattle.trace_text.specs.declared.lines.Line.{Line}
 use Rattle.safety_laws.specs.Safe.{Safe, intersection_of}
 use Rattle.scenario_data.specs.Content.{ScenarioContent}
@@ -12,3 +12,13 @@ AllKnown s before = (cab : ℕ) → is_known s cab before ≡ true
 -- by the lines, and the tables that they bring into force, the street of each cabinet is safe
 abbrev pub AllSafe : ScenarioContent → List Line → Type 0
 AllSafe s before = (cab : ℕ) → Safe (intersection_of cab (tables_before s before cab) (reverse before))
+
+-- the lines of a log as far as the tables of a cabinet are known
+abbrev pub known_part : ScenarioContent → ℕ → List Line → List Line
+known_part s cab [] = []
+known_part s cab (line ∷ before) = if is_known s cab (line ∷ before) then line ∷ before else known_part s cab before
+
+-- the street of each cabinet is safe by these lines
+abbrev pub SafeSoFar : ScenarioContent → List Line → Type 0
+SafeSoFar s before =
+    (cab : ℕ) → Safe (intersection_of cab (tables_before s (known_part s cab before) cab) (reverse (known_part s cab before)))

@@ -11,5 +11,7 @@ mod texts;
 mod watch;
 
 pub use faults::{LineFault, NotTaken};
-pub use laws::{a_log_without_breaches_is_safe, judged_lines_are_short};
+pub use laws::{
+    a_log_without_breaches_is_safe, a_log_without_breaches_is_safe_so_far, judged_lines_are_short,
+};
 pub use log::LogJudge;
