@@ -28,6 +28,7 @@ use Rattle.station.specs.Judged.{AreLogLines, HasHead, JudgesShort, LogEnds, Jud
 use Rattle.station.specs.Judging.{IsHeadRead, IsJudging, JudgesNext, RefusesNext, StopsReading}
 use Rattle.station.proofs.Sessions.{appends_then, front_then, line_behind, long_line, more_ahead, none_ahead, whole_front}
 use Rattle.judge_session.proofs.KnownTables.{safe_of_none, none_of_safe}
+use Rattle.judge_session.proofs.KnownParts.{so-far-of-none, none-of-so-far}
 
 -- the lines of a log, and one more: a line of at most 4,096 bytes counts, and a longer one is ignored
 one_line : (line : List ℕ) (b : Bool) → nat_le (length line) 4096 ≡ b → short_lines (line ∷ []) ≡ (if b then line ∷ [] else [])
@@ -132,11 +133,13 @@ module _ (s : ScenarioContent) (terms : Terms) (from judge : LogJudge) (left ahe
         by (inl (so, none)) = subst (λ (x : Status). LogEnds terms x unread unwritten left old new s) (sym so) (record {
           whole = record { lines = is.bytes; before = is.before; all = none_ahead left ahead is.bytes is.asked last.none; log = is.log; written = appends_then old mid new _ _ is.written whole };
           none = none;
+          so_far = λ to_tick. so-far-of-none s is.before is.log.follow (subst (λ (x : Terms). log_found s x is.before ≡ []) to_tick none);
           safe = λ to_tick known. safe_of_none s is.before is.log.follow known (subst (λ (x : Terms). log_found s x is.before ≡ []) to_tick none);
         })
         by (inr (so, some)) = subst (λ (x : Status). LogEnds terms x unread unwritten left old new s) (sym so) (record {
           whole = record { lines = is.bytes; before = is.before; all = none_ahead left ahead is.bytes is.asked last.none; log = is.log; written = appends_then old mid new _ _ is.written whole };
           some = some;
+          so_far = λ to_tick safe. some (subst (λ (x : Terms). log_found s x is.before ≡ []) (sym to_tick) (none-of-so-far s is.before is.log.follow safe));
           unsafe = λ to_tick known safe. some (subst (λ (x : Terms). log_found s x is.before ≡ []) (sym to_tick) (none_of_safe s is.before is.log.follow known safe));
         })
 

@@ -10,7 +10,7 @@ use Rattle.scenario_read.specs.Answers.{IsScenario, IsFirstFault}
 use Rattle.session_words.specs.Lines.{first_line, behind_first, whole_lines}
 use Rattle.judge_laws.specs.declared.Terms.{Terms}
 use Rattle.judge_laws.specs.Breaches.{exact}
-use Rattle.judge_session.specs.Streets.{AllKnown, AllSafe}
+use Rattle.judge_session.specs.Streets.{AllKnown, AllSafe, SafeSoFar}
 use Rattle.judge_session.specs.Log.{IsLog, LogStops}
 use Rattle.judge_session.specs.Report.{log_found, log_report, judged_text}
 use Rattle.station.specs.declared.status.LogFault.{LogFault}
@@ -59,16 +59,19 @@ pub record JudgesWhole (terms : Terms) (left old new : Option (List ℕ)) (s : S
   pub log : IsLog s lines before
   pub written : Appends old new (judged_text s terms before)
 
--- a log without a breach: judged to the tick and from tick 0 on, with all tables known, the street of each cabinet is safe
+-- a log without a breach: judged to the tick and from tick 0 on, the street of each cabinet is safe as far as its tables are known;
+-- with all tables known, it is safe
 pub record IsSafeLog (terms : Terms) (left old new : Option (List ℕ)) (s : ScenarioContent) : Type 0 where
   pub whole : JudgesWhole terms left old new s
   pub none : log_found s terms whole.before ≡ []
+  pub so_far : terms ≡ exact → SafeSoFar s whole.before
   pub safe : terms ≡ exact → AllKnown s whole.before → AllSafe s whole.before
 
--- a log with breaches: the street of some cabinet is not safe
+-- a log with breaches: judged so, the street of some cabinet is not safe
 pub record IsUnsafeLog (terms : Terms) (left old new : Option (List ℕ)) (s : ScenarioContent) : Type 0 where
   pub whole : JudgesWhole terms left old new s
   pub some : log_found s terms whole.before ≢ []
+  pub so_far : terms ≡ exact → SafeSoFar s whole.before → ⊥
   pub unsafe : terms ≡ exact → AllKnown s whole.before → AllSafe s whole.before → ⊥
 
 -- the line with this number is the first that can't follow: the lines before it are a log, and their report was appended. The
