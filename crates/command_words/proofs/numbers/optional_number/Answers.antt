@@ -14,7 +14,7 @@ returns-else-n-most c =
     no_optional (map string_bytes c.args.words.now) c.args.option.now c.args.most
     (λ e. let some : [] ≡ c.args.option.now ∷ decimal c.in-Some.n ∷ map string_bytes c.in-Some.rest.now = sym e ∙ c.in-Some.ensures.some.0 in cc)
     (λ n few is.
-        let small : n ≤ c.args.most = few in
-        let fits : n ≤ 4294967295 = omega (arith, small, c.ranges.most.fits) in
-        let same : c.in-Some.n ≡ n = same_number _ _ c.in-Some.ensures.some.1 fits (ap (λ (ws : List (List ℕ)). get_or ws 1 []) (sym c.in-Some.ensures.some.0 ∙ is)) in
-        omega (arith, small, same, c.if-n-most.false))
+    let small : n ≤ c.args.most = few in
+    let fits : n ≤ 4294967295 = omega (arith, small, c.ranges.most.fits) in
+    let same : c.in-Some.n ≡ n = same_number _ _ c.in-Some.ensures.some.1 fits (ap (λ (ws : List (List ℕ)). get_or ws 1 []) (sym c.in-Some.ensures.some.0 ∙ is)) in
+    omega (arith, small, same, c.if-n-most.false))
