@@ -1,25 +1,21 @@
 -- Of a cabinet whose tables become unknown, the lines before that are judged, and no others.
-use Rattle.std.proofs.Common.{◌≡◌, ◌≤◌, ◌+◌, ◌∙◌, ◌==◌, nat_le, ℕ, Bool, true, false, if◌then◌else◌, List, [], ◌∷◌, ◌++◌, Option, Some, None, Ok, Err, is_some, unwrap_or, reverse, refl, sym, ap, subst, arith}
+use Rattle.std.proofs.Common.{◌≡◌, ◌≤◌, ◌∙◌, ◌==◌, nat_le, ℕ, Bool, true, false, if◌then◌else◌, List, [], ◌∷◌, ◌++◌, Option, Ok, Err, unwrap_or, reverse, refl, sym, ap, subst}
 use Rattle.std.proofs.lemmas.Bool.{eqb-true, eq-eqb, false≢true}
-use Rattle.std.proofs.lemmas.List.{reverse-append, reverse-reverse}
-use Rattle.sig_types.specs.declared.frame.Colour.{Colour}
-use Rattle.sig_types.specs.declared.frame.Ped.{Ped}
-use Rattle.sig_types.specs.declared.frame.Mode.{Mode}
+use Rattle.std.proofs.lemmas.List.{reverse-append}
 use Rattle.sig_tables.specs.declared.tables.Tables.{Tables}
 use Rattle.trace_text.specs.declared.lines.Line.{Line}
 use Rattle.trace_text.specs.declared.lines.Line.TheVariants.{S, R, M, J, A, F, L, Z}
 use Rattle.safety_laws.specs.Safe.{Indications, Intersection, Safe, dark, told, shown_at, intersection_of}
 use Rattle.safety_laws.specs.Whole.{downloads}
 use Rattle.scenario_data.specs.Content.{ScenarioContent}
-use Rattle.judge_laws.specs.declared.Breach.{Breach}
-use Rattle.judge_laws.specs.Breaches.{exact, frame_breaches, Falls}
+use Rattle.judge_laws.specs.Breaches.{exact, frame_breaches}
 use Rattle.judge_laws.proofs.Runs.{back_at}
 use Rattle.judge_laws.proofs.Tests.{funext, append-none, none-append}
 use Rattle.judge_laws.proofs.Parts.{Fine, AllFine, all-parts, parts-all, parts-safe, safe-parts, street}
 use Rattle.judge_laws.proofs.Findings.{none-fine, fine-none}
 use Rattle.judge_laws.proofs.Judged.{told-reverse}
 use Rattle.judge_session.specs.Told.{load_told, opening_at, is_known, tables_before}
-use Rattle.judge_session.specs.Log.{fault_of, Follow}
+use Rattle.judge_session.specs.Log.{Follow}
 use Rattle.judge_session.specs.Report.{line_found, log_found}
 use Rattle.judge_session.specs.Streets.{known_part, SafeSoFar}
 use Rattle.judge_session.proofs.KnownTables.{AtMost, frame_same, stays, falls, known_before}

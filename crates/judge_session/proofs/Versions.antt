@@ -18,7 +18,7 @@ module _ (load : ℕ → Option (List (Cell × Content))) (opening : Tables) (ca
     where
       split : (b : Bool) → (c == cab) ≡ b → version_told load opening cab before (downloads cab before) ≡ tables_told load opening cab before
           → version_told load opening cab (L c id (Ok made) ∷ before) (downloads cab (L c id (Ok made) ∷ before)) ≡ tables_told load opening cab (L c id (Ok made) ∷ before)
-      split true e known = let s : (downloads cab before + 1 == downloads cab before + 1) ≡ true = eq-eqb _ _ refl in rw e (rw s refl)
+      split true e known = let s : (downloads cab before + 1 == downloads cab before + 1) ≡ true = eq-eqb _ _ refl in rw e (rw s (refl {a = loaded (load id) (tables_told load opening cab before)}))
       split false e known = rw e known
   version-now (L c id (Err broken) ∷ before) = version-now before
   version-now (S json ∷ before) = version-now before
