@@ -144,7 +144,7 @@ take)
     python launch take "$@"
     ;;
 -h | --help) [ $# = 1 ] && help_of "$1" ;;
-run | check | overlaps | live | band | respond | generate | survey)
+run | check | overlaps | live | judge | band | respond | generate | survey)
     for word; do
         case $word in --help | -h) help_of "$word" "$1" ;; esac
     done
@@ -171,7 +171,7 @@ END
 
 # The name of a file among the arguments of a command that reads one replaces standard input.
 case $1 in
-run | check | overlaps | band | respond)
+run | check | overlaps | judge | band | respond)
     place=0 is_value=no file=
     for word; do
         shift
@@ -180,6 +180,7 @@ run | check | overlaps | band | respond)
             is_value=no
         else
             case $word in
+            --joined) ;;
             --*) is_value=yes ;;
             *) [ $place -gt 1 ] && [ -z "$file" ] && file=${word:-./} && continue ;;
             esac

@@ -51,9 +51,9 @@ def test_each_command_of_the_launcher_is_in_the_reference():
 
 
 def test_the_statuses_of_the_program_are_those_of_its_help():
-    """0 to 7, as the help text lists them."""
+    """0 to 8, as the help text lists them."""
     found = program.read(TOP)
-    assert [number for number, _ in found.statuses] == list(range(8)) and found.statuses[7][1].startswith("the overlap")
+    assert [number for number, _ in found.statuses] == list(range(9)) and found.statuses[7][1].startswith("the overlap")
     assert found.after.startswith("After 4") and found.more.startswith("docs/SCENARIO.md")
     assert list(MEANINGS) == list(Status)
 

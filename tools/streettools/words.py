@@ -47,6 +47,7 @@ OF_PROGRAM = (
     Word("check", "check whether a text is a trace"),
     Word("live", "run a scenario request by request"),
     Word("overlaps", "show when an overlap of a trace changes"),
+    Word("judge", "judge the log of any controllers, line by line"),
     Word("band", "compute the progression bands of a plan"),
     Word("respond", "compute calls and patterns from detector pulses"),
     Word("generate", "write a random scenario"),

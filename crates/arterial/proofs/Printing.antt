@@ -1,5 +1,5 @@
 -- One piece of a line after another.
-use Rattle.std.proofs.Common.{◌≡◌, ◌≤◌, ◌∙◌, inl, inr, arith, ℕ, List, ◌++◌, Option, Result, Ok, Err, ap}
+use Rattle.std.proofs.Common.{◌≤◌, ◌∙◌, inl, inr, arith, ℕ, List, ◌++◌, Option, Result, Ok, Err, ap}
 use Rattle.io_edge.specs.Edge.{appended, Rises}
 use Rattle.io_edge.proofs.Appending.{appended-appended}
 use Rattle.io_edge.specs.declared.Failed.{Failed}

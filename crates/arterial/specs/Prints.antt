@@ -1,5 +1,5 @@
 -- What of a text was printed.
-use Rattle.std.specs.Prelude.{◌≡◌, ◌≤◌, ℕ, List, Option, Result, OnOk, OnErr}
+use Rattle.std.specs.Prelude.{◌≤◌, ℕ, List, Option, Result, OnOk, OnErr}
 use Rattle.io_edge.specs.Edge.{Appends, Rises}
 use Rattle.io_edge.specs.declared.Failed.{Failed}
 use Rattle.trace_writer.specs.Bytes.{AppendsFront}

@@ -24,9 +24,10 @@ fn code_of(status: &Status) -> u8
         Status::Scenario(_) => 2,
         Status::ReadFault => 3,
         Status::WriteFault => 4,
-        Status::NotATrace(_) => 5,
+        Status::NotATrace(_) | Status::NotALog(_) => 5,
         Status::NoMemory => 6,
         Status::Overlap(_) => 7,
+        Status::Unsafe => 8,
     }
 }
 

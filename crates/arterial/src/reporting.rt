@@ -2,11 +2,11 @@
 
 ghost use Rattle.std.specs.Prelude.{◌≡◌, ◌++◌, ◌∷◌, [], codes, decimal, string_bytes};
 ghost use Rattle.arterial.specs.Prints.{Prints};
-ghost use Rattle.arterial.specs.Report.{words_line, named_line, number_then, refusal_line, report_line};
+ghost use Rattle.arterial.specs.Report.{words_line, named_line, number_then, refusal_line, fault_words, report_line};
 
 use io_edge::{Failed, Sink};
 use itoa::Buffer;
-use station::{Refusal, Status};
+use station::{LineFault, LogFault, Refusal, Status};
 use trace_writer::put_all;
 
 /// The line for words that are not a command.
@@ -20,7 +20,7 @@ fn print<K: Sink>(sink: &mut K, text: &str) -> Result<(), Failed>
 }
 
 /// Prints some words and a number.
-fn print_number<K: Sink>(sink: &mut K, words: &str, n: u32) -> Result<(), Failed>
+fn print_number<K: Sink>(sink: &mut K, words: &str, n: u64) -> Result<(), Failed>
     ensures { Prints K.written K.faults result sink.old sink.new (words.now ++ decimal n) }
 {
     match print(sink, words) {
@@ -50,9 +50,9 @@ fn print_named<K: Sink>(sink: &mut K, words: &str, name: &str) -> Result<(), Fai
 fn print_two<K: Sink>(
     sink: &mut K,
     words: &str,
-    first: u32,
+    first: u64,
     between: &str,
-    second: u32,
+    second: u64,
 ) -> Result<(), Failed>
     ensures { Prints K.written K.faults result sink.old sink.new (number_then words.now first (number_then between.now second (10 ∷ []))) }
 {
@@ -71,16 +71,16 @@ fn print_two<K: Sink>(
 fn print_broken<K: Sink>(sink: &mut K, cab: u32, rule: u8, row: u16) -> Result<(), Failed>
     ensures { Prints K.written K.faults result sink.old sink.new (refusal_line (Refusal.Broken cab rule row)) }
 {
-    match print_number(sink, "scenario: cabinet ", cab) {
+    match print_number(sink, "scenario: cabinet ", u64::from(cab)) {
         Ok(()) => {}
         Err(Failed) => return Err(Failed),
     }
     print_two(
         sink,
         " breaks rule ",
-        u32::from(rule),
+        u64::from(rule),
         " at row ",
-        u32::from(row),
+        u64::from(row),
     )
 }
 
@@ -96,6 +96,30 @@ fn print_refusal<K: Sink>(sink: &mut K, refusal: &Refusal) -> Result<(), Failed>
     }
 }
 
+/// Why a line of a log can't follow those before it, up to the end of the printed line.
+fn words_of(fault: LineFault) -> &'static str
+    ensures { result.now ≡ words_line (fault_words fault) }
+{
+    match fault {
+        LineFault::NotALine => " is not a line of a trace\n",
+        LineFault::NoCabinet => " is of a cabinet that the scenario does not have\n",
+        LineFault::NotLater => " is not later than the frame before it\n",
+        LineFault::FrameVersion => " has a version other than the number of accepted loads\n",
+        LineFault::LoadVersion => " has a version other than the next one\n",
+    }
+}
+
+/// Prints which line of a log can't follow, and why.
+fn print_fault<K: Sink>(sink: &mut K, fault: &LogFault) -> Result<(), Failed>
+    ensures { Prints K.written K.faults result sink.old sink.new (number_then (codes "log: line ") fault.now.line (words_line (fault_words fault.now.fault))) }
+{
+    match print_number(sink, "log: line ", fault.line) {
+        Ok(()) => {}
+        Err(Failed) => return Err(Failed),
+    }
+    print(sink, words_of(fault.fault))
+}
+
 /// Prints the line of an answer; nothing where all is done. It takes no memory. Where a write fails, a prefix of the
 /// line is printed.
 pub fn report<K: Sink>(status: &Status, sink: &mut K) -> Result<(), Failed>
@@ -108,17 +132,19 @@ pub fn report<K: Sink>(status: &Status, sink: &mut K) -> Result<(), Failed>
         Status::NotATrace(fault) => print_two(
             sink,
             "trace: line ",
-            fault.line,
+            u64::from(fault.line),
             " breaks rule ",
-            u32::from(fault.rule),
+            u64::from(fault.rule),
         ),
         Status::Overlap(fault) => print_two(
             sink,
             "overlap: rule ",
-            u32::from(fault.rule),
+            u64::from(fault.rule),
             " at row ",
-            u32::from(fault.row),
+            u64::from(fault.row),
         ),
+        Status::Unsafe => print(sink, "log: not safe\n"),
+        Status::NotALog(fault) => print_fault(sink, fault),
         Status::ReadFault => print(sink, "read fault\n"),
         Status::WriteFault => print(sink, "write fault\n"),
         Status::NoMemory => print(sink, "out of memory\n"),

@@ -1,3 +1,4 @@
 mod Decimals
 mod OneCommand
+mod OneJudge
 mod OneOverlap

@@ -4,11 +4,13 @@ use Rattle.std.specs.Str.{bytes_eq}
 use Rattle.std.proofs.lemmas.Slice.Eq.{bytes_eq-Decides}
 use Rattle.command_words.specs.declared.command.Seeding.{Seeding}
 use Rattle.command_words.specs.declared.command.Overlap.{Overlap}
+use Rattle.judge_laws.specs.declared.Terms.{Terms}
 use Rattle.command_words.specs.declared.command.Command.{Command}
-use Rattle.command_words.specs.declared.command.Command.TheVariants.{Run, Check, Generate, Survey, Band, Respond, Overlaps, Live, Help, Version}
-use Rattle.command_words.specs.Words.{IsRun, IsCheck, IsGenerate, IsSurvey, IsBand, IsRespond, IsOverlaps, IsLive, IsHelp, IsVersion, seeding_words, CanSeed, AskFor}
+use Rattle.command_words.specs.declared.command.Command.TheVariants.{Run, Check, Generate, Survey, Band, Respond, Overlaps, Live, Judge, Help, Version}
+use Rattle.command_words.specs.Words.{IsRun, IsCheck, IsGenerate, IsSurvey, IsBand, IsRespond, IsOverlaps, IsLive, IsJudge, IsHelp, IsVersion, seeding_words, CanSeed, AskFor}
 use Rattle.command_words.proofs.Decimals.{same_number}
 use Rattle.command_words.proofs.OneOverlap.{one_overlap}
+use Rattle.command_words.proofs.OneJudge.{one_judge}
 
 -- the numbers after options, read one after another, are those from which a scenario is generated
 pub read_seeding : (texts first second third : List (List ℕ)) (read from : Seeding) → texts ≡ codes "--seed" ∷ decimal read.seed ∷ first
@@ -64,6 +66,7 @@ name_of Band = codes "band"
 name_of Respond = codes "respond"
 name_of (Overlaps overlap) = codes "overlaps"
 name_of Live = codes "live"
+name_of (Judge terms) = codes "judge"
 name_of Help = codes "--help"
 name_of Version = codes "--version"
 
@@ -78,6 +81,7 @@ has_name words Band is = ap (λ (ws : List (List ℕ)). get_or ws 0 []) is
 has_name words Respond is = ap (λ (ws : List (List ℕ)). get_or ws 0 []) is
 has_name words (Overlaps overlap) is = ap (λ (ws : List (List ℕ)). get_or ws 0 []) is.1
 has_name words Live is = ap (λ (ws : List (List ℕ)). get_or ws 0 []) is
+has_name words (Judge terms) is = ap (λ (ws : List (List ℕ)). get_or ws 0 []) is.1
 has_name words Help is = ap (λ (ws : List (List ℕ)). get_or ws 0 []) is
 has_name words Version is = ap (λ (ws : List (List ℕ)). get_or ws 0 []) is
 
@@ -107,6 +111,8 @@ one_command words (Overlaps a) (Overlaps b) is are =
 one_command words (Overlaps a) d is are = absurd (differ words (Overlaps a) d is are refl)
 one_command words Live Live is are = refl
 one_command words Live d is are = absurd (differ words Live d is are refl)
+one_command words (Judge a) (Judge b) is are = ap Judge (one_judge words a b is are)
+one_command words (Judge a) d is are = absurd (differ words (Judge a) d is are refl)
 one_command words Help Help is are = refl
 one_command words Help d is are = absurd (differ words Help d is are refl)
 one_command words Version Version is are = refl
@@ -120,8 +126,8 @@ its_command words c is d = (
 )
 
 -- they ask for none
-pub no_command : (words : List (List ℕ)) → ((n : ℕ) → IsRun words n → ⊥) → (IsCheck words → ⊥) → ((from : Seeding) → IsGenerate words from → ⊥) → ((from : Seeding) → IsSurvey words from → ⊥) → (IsBand words → ⊥) → (IsRespond words → ⊥) → ((overlap : Overlap) → IsOverlaps words overlap → ⊥) → (IsLive words → ⊥) → (IsHelp words → ⊥) → (IsVersion words → ⊥) → (d : Command) → (None ≡ Some d) ↔ AskFor words d
-no_command words run check generate survey band respond overlaps live help version d = (λ e. absurd (cc), λ is. absurd (none d is))
+pub no_command : (words : List (List ℕ)) → ((n : ℕ) → IsRun words n → ⊥) → (IsCheck words → ⊥) → ((from : Seeding) → IsGenerate words from → ⊥) → ((from : Seeding) → IsSurvey words from → ⊥) → (IsBand words → ⊥) → (IsRespond words → ⊥) → ((overlap : Overlap) → IsOverlaps words overlap → ⊥) → (IsLive words → ⊥) → ((terms : Terms) → IsJudge words terms → ⊥) → (IsHelp words → ⊥) → (IsVersion words → ⊥) → (d : Command) → (None ≡ Some d) ↔ AskFor words d
+no_command words run check generate survey band respond overlaps live judge help version d = (λ e. absurd (cc), λ is. absurd (none d is))
   where
     none : (c : Command) → AskFor words c → ⊥
     none (Run workers) is = run workers is
@@ -132,6 +138,7 @@ no_command words run check generate survey band respond overlaps live help versi
     none Respond is = respond is
     none (Overlaps overlap) is = overlaps overlap is
     none Live is = live is
+    none (Judge terms) is = judge terms is
     none Help is = help is
     none Version is = version is
 

@@ -1,11 +1,12 @@
 -- What the words of a command line say.
-use Rattle.std.specs.Prelude.{◌≡◌, ◌≤◌, ◌⊎◌, ℕ, List, [], ◌∷◌, Ok, codes, decimal, length}
+use Rattle.std.specs.Prelude.{◌≡◌, ◌≤◌, ◌⊎◌, ℕ, Bool, true, false, List, [], ◌∷◌, ◌++◌, Ok, codes, decimal, length}
 use Rattle.hex.specs.Hex.{decode_of}
 use Rattle.gen_arterial.specs.Written.{CanMake}
+use Rattle.judge_laws.specs.declared.Terms.{Terms}
 use Rattle.command_words.specs.declared.command.Seeding.{Seeding}
 use Rattle.command_words.specs.declared.command.Overlap.{Overlap}
 use Rattle.command_words.specs.declared.command.Command.{Command}
-use Rattle.command_words.specs.declared.command.Command.TheVariants.{Run, Check, Generate, Survey, Band, Respond, Overlaps, Live, Help, Version}
+use Rattle.command_words.specs.declared.command.Command.TheVariants.{Run, Check, Generate, Survey, Band, Respond, Overlaps, Live, Judge, Help, Version}
 
 -- to run a scenario by that many workers, 0 to 8; with no number it is by none
 abbrev pub IsRun : List (List ℕ) → ℕ → Type 0
@@ -66,6 +67,23 @@ IsOverlaps words overlap = (hex : List ℕ) × (words ≡ codes "overlaps" ∷ o
 abbrev pub IsLive : List (List ℕ) → Type 0
 IsLive words = words ≡ codes "live" ∷ []
 
+-- the words give a number by an option, at most that many; with no words it is 0
+abbrev pub IsOptional : List (List ℕ) → List ℕ → ℕ → ℕ → Type 0
+IsOptional words option most n = ((words ≡ []) × (n ≡ 0)) ⊎ ((words ≡ option ∷ decimal n ∷ []) × (n ≤ most))
+
+-- the option of a log that begins in the middle
+abbrev pub joined_words : Bool → List (List ℕ)
+joined_words true = codes "--joined" ∷ []
+joined_words false = []
+
+-- the words give terms: whether a log begins in the middle, and then a tolerance of 0 to 20 ticks, which is 0 if no number is given
+abbrev pub IsTerms : List (List ℕ) → Terms → Type 0
+IsTerms words terms = (rest : List (List ℕ)) × (words ≡ joined_words terms.joined ++ rest) × IsOptional rest (codes "--tolerance") 20 terms.tolerance
+
+-- to judge a log on these terms
+abbrev pub IsJudge : List (List ℕ) → Terms → Type 0
+IsJudge words terms = (rest : List (List ℕ)) × (words ≡ codes "judge" ∷ rest) × IsTerms rest terms
+
 -- to write the help
 abbrev pub IsHelp : List (List ℕ) → Type 0
 IsHelp words = words ≡ codes "--help" ∷ []
@@ -84,6 +102,7 @@ AskFor words Band = IsBand words
 AskFor words Respond = IsRespond words
 AskFor words (Overlaps overlap) = IsOverlaps words overlap
 AskFor words Live = IsLive words
+AskFor words (Judge terms) = IsJudge words terms
 AskFor words Help = IsHelp words
 AskFor words Version = IsVersion words
 

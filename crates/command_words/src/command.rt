@@ -1,6 +1,7 @@
 //! What the words can ask for.
 
 use arrayvec::ArrayVec;
+use judge_laws::Terms;
 
 /// What a scenario is generated from: a seed, and how many cabinets and rounds it has.
 #[derive(Clone, Copy, PartialEq, Eq)]
@@ -43,6 +44,8 @@ pub enum Command {
     Overlaps(Overlap),
     /// To answer the requests of a session with cabinets, one by one.
     Live,
+    /// To judge a log of indications on these terms.
+    Judge(Terms),
     /// To write how the program is used.
     Help,
     /// To write which program this is.

@@ -3,6 +3,7 @@
 #![tactic(auto)]
 
 mod command;
+mod judges;
 mod numbers;
 mod overlaps;
 mod telling;

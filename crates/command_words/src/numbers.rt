@@ -1,6 +1,7 @@
 //! Words one after another, and the numbers among them.
 
 ghost use Rattle.std.specs.Prelude.{◌≡◌, ◌≤◌, ◌∷◌, ◌↔◌, ℕ, List, IfSome, decimal, map, string_bytes};
+ghost use Rattle.command_words.specs.Words.{IsOptional};
 
 use itoa::Buffer;
 
@@ -59,6 +60,24 @@ pub fn option_number<'a>(words: &'a [String], option: &str) -> Option<(u32, &'a 
 {
     match behind(words, option) {
         Some(rest) => first_number(rest),
+        None => None,
+    }
+}
+
+/// The number that the words give by an option, at most that many; 0 where there are no words.
+pub fn optional_number(words: &[String], option: &str, most: u32) -> Option<u32>
+    ensures { (n : ℕ) → (result ≡ Some n) ↔ IsOptional (map string_bytes words.now) option.now most n }
+{
+    if words.is_empty() {
+        return Some(0);
+    }
+    match option_number(words, option) {
+        Some((n, rest)) => {
+            if !rest.is_empty() {
+                return None;
+            }
+            if n <= most { Some(n) } else { None }
+        }
         None => None,
     }
 }

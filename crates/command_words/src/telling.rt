@@ -7,7 +7,8 @@ ghost use Rattle.command_words.specs.declared.command.Seeding.{Seeding as Seedin
 ghost use Rattle.command_words.specs.declared.command.Command.{Command as CommandRow};
 
 use crate::command::{Command, Seeding};
-use crate::numbers::{behind, option_number};
+use crate::judges::terms_of;
+use crate::numbers::{behind, option_number, optional_number};
 use crate::overlaps::overlap_of;
 
 /// Whether there is one word, and it is this one.
@@ -20,33 +21,12 @@ fn is_lone(words: &[String], name: &str) -> bool
     }
 }
 
-/// The number of workers that the words after `run` give: 0 to 8.
-fn given_workers(words: &[String]) -> Option<u32>
-    ensures { (n : ℕ) → (result ≡ Some n) ↔ ((map string_bytes words.now ≡ codes "--workers" ∷ decimal n ∷ []) × (n ≤ 8)) }
-{
-    match option_number(words, "--workers") {
-        Some((workers, rest)) => {
-            if !rest.is_empty() {
-                return None;
-            }
-            if workers <= 8 { Some(workers) } else { None }
-        }
-        None => None,
-    }
-}
-
 /// By how many workers the words want a scenario run; with no number by none.
 fn run_workers(words: &[String]) -> Option<u32>
     ensures { (n : ℕ) → (result ≡ Some n) ↔ IsRun (map string_bytes words.now) n }
 {
     match behind(words, "run") {
-        Some(rest) => {
-            if rest.is_empty() {
-                Some(0)
-            } else {
-                given_workers(rest)
-            }
-        }
+        Some(rest) => optional_number(rest, "--workers", 8),
         None => None,
     }
 }
@@ -118,6 +98,9 @@ pub fn command_of(words: &Vec<String>) -> Option<Command>
     }
     if let Some(overlap) = overlap_of(words) {
         return Some(Command::Overlaps(overlap));
+    }
+    if let Some(terms) = terms_of(words) {
+        return Some(Command::Judge(terms));
     }
     if is_lone(words, "check") {
         Some(Command::Check)

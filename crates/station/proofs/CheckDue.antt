@@ -6,7 +6,7 @@ use Rattle.trace_laws.specs.Faults.{FirstFault, TooLong}
 use Rattle.trace_laws.specs.Laws.{FaultsAreDetermined, TracesHaveNoFault, TellsOfRun}
 use Rattle.band_laws.specs.Driving.{BandIsGreen}
 use Rattle.station.specs.declared.status.Status.{Status}
-use Rattle.station.specs.declared.status.Status.TheVariants.{Done, Usage, Scenario, NotATrace, Overlap as BrokenOverlap, ReadFault, WriteFault, NoMemory}
+use Rattle.station.specs.declared.status.Status.TheVariants.{Done, Usage, Scenario, NotATrace, Overlap as BrokenOverlap, Unsafe, NotALog, ReadFault, WriteFault, NoMemory}
 use Rattle.station.specs.Bytes.{AreInput, nothing_left}
 use Rattle.station.specs.Checked.{IsTraceRead, IsNoTrace, Checked, IsCheckDue}
 
@@ -71,6 +71,8 @@ module _ (faultless : TracesHaveNoFault) (one : FaultsAreDetermined) where
   check-due (Scenario refusal) (Some input) ends unread is sound = absurd is
   check-due (NotATrace fault) (Some input) ends unread is sound = inl (due_none fault input ends is)
   check-due (BrokenOverlap fault) (Some input) ends unread is sound = absurd is
+  check-due Unsafe (Some input) ends unread is sound = absurd is
+  check-due (NotALog fault) (Some input) ends unread is sound = absurd is
   check-due ReadFault (Some input) ends unread is sound = absurd (sound is)
   check-due WriteFault (Some input) ends unread is sound = absurd is
   check-due NoMemory (Some input) ends unread is sound = inr refl

@@ -5,7 +5,7 @@ use Rattle.scenario_data.specs.declared.refusal.Refusal.{Refusal}
 use Rattle.scenario_read.specs.Answers.{IsScenario, IsFirstFault}
 use Rattle.scenario_read.proofs.OneAnswer.{no-fault-beside}
 use Rattle.station.specs.declared.status.Status.{Status}
-use Rattle.station.specs.declared.status.Status.TheVariants.{Done, Usage, Scenario, NotATrace, Overlap as BrokenOverlap, ReadFault, WriteFault, NoMemory}
+use Rattle.station.specs.declared.status.Status.TheVariants.{Done, Usage, Scenario, NotATrace, Overlap as BrokenOverlap, Unsafe, NotALog, ReadFault, WriteFault, NoMemory}
 use Rattle.station.specs.Io.{io}
 use Rattle.station.specs.Answers.{IsShort, IsRead, IsRefused, Ran, RunAnswer, IsDue, IsLengthRefusal, WritesText}
 use Rattle.station.specs.Replied.{IsTextOfInput, Replied, ReplyAnswer, IsReplyDue}
@@ -56,6 +56,8 @@ due workers Usage (Some input) ends unread old new unwritten ran sound = absurd 
 due workers (Scenario refusal) (Some input) ends unread old new unwritten ran sound = inl (due_refused refusal input ends unwritten ran.0)
 due workers (NotATrace fault) (Some input) ends unread old new unwritten ran sound = absurd ran
 due workers (BrokenOverlap fault) (Some input) ends unread old new unwritten ran sound = absurd ran
+due workers Unsafe (Some input) ends unread old new unwritten ran sound = absurd ran
+due workers (NotALog fault) (Some input) ends unread old new unwritten ran sound = absurd ran
 due workers ReadFault (Some input) ends unread old new unwritten ran sound = absurd (sound ran.0)
 due workers WriteFault (Some input) ends unread old new unwritten ran sound = inl (due_run WriteFault input ran.1.scenario unwritten ran.1.input (λ put. absurd (put ran.0)))
 due workers NoMemory (Some input) ends unread old new unwritten ran sound = inr refl
@@ -100,6 +102,8 @@ module _ (Tells : List ℕ → List ℕ → Type 0) (IsFirst : List ℕ → Refu
     reply_due (Scenario refusal) (Some input) ends unread old new unwritten is sound = inl (refused_due refusal input ends unwritten is.0)
     reply_due (NotATrace fault) (Some input) ends unread old new unwritten is sound = absurd is
     reply_due (BrokenOverlap fault) (Some input) ends unread old new unwritten is sound = absurd is
+    reply_due Unsafe (Some input) ends unread old new unwritten is sound = absurd is
+    reply_due (NotALog fault) (Some input) ends unread old new unwritten is sound = absurd is
     reply_due ReadFault (Some input) ends unread old new unwritten is sound = absurd (sound is.0)
     reply_due WriteFault (Some input) ends unread old new unwritten is sound =
         inl (told_due WriteFault input is.1.text ends unwritten is.1.of_input (λ put. absurd (put is.0)))
@@ -122,5 +126,7 @@ told_reply Tells IsFirst Usage left ends unread old new unwritten text is so = a
 told_reply Tells IsFirst (Scenario refusal) left ends unread old new unwritten text is so = absurd so
 told_reply Tells IsFirst (NotATrace fault) left ends unread old new unwritten text is so = absurd so
 told_reply Tells IsFirst (BrokenOverlap fault) left ends unread old new unwritten text is so = absurd so
+told_reply Tells IsFirst Unsafe left ends unread old new unwritten text is so = absurd so
+told_reply Tells IsFirst (NotALog fault) left ends unread old new unwritten text is so = absurd so
 told_reply Tells IsFirst ReadFault left ends unread old new unwritten text is so = absurd so
 told_reply Tells IsFirst NoMemory left ends unread old new unwritten text is so = absurd so

@@ -6,3 +6,6 @@ mod OverlapDue
 mod Telling
 mod Sessions
 mod LiveDue
+mod LogReports
+mod Logs
+mod JudgeDue

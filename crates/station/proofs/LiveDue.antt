@@ -9,7 +9,7 @@ use Rattle.scenario_read.proofs.OneAnswer.{no-fault-beside, one-scenario}
 use Rattle.session_words.specs.Lines.{first_line}
 use Rattle.session_laws.specs.Dialogue.{early_priority, early_path, order_fault, IsByRounds, IsOrderFault}
 use Rattle.station.specs.declared.status.Status.{Status}
-use Rattle.station.specs.declared.status.Status.TheVariants.{Done, Usage, Scenario, NotATrace, Overlap as BrokenOverlap, ReadFault, WriteFault, NoMemory}
+use Rattle.station.specs.declared.status.Status.TheVariants.{Done, Usage, Scenario, NotATrace, Overlap as BrokenOverlap, Unsafe, NotALog, ReadFault, WriteFault, NoMemory}
 use Rattle.station.specs.Io.{io}
 use Rattle.station.specs.Answers.{IsShort}
 use Rattle.station.specs.Lived.{IsBase, IsSession, IsFirstLineFault, IsLineRefused, IsLiveDue, Lived, LiveAnswer}
@@ -43,7 +43,7 @@ due_session status input s requests unwritten is done =
     }
 
 -- a refusal is expected
-due_refused : (refusal : Refusal) (input : List ℕ) (unwritten : Type 0) → IsLineRefused refusal (Some input) → IsLiveDue (Scenario refusal) (first_line input) unwritten
+due_refused : (refusal : Refusal) (input : List ℕ) (unwritten : Type 0) → IsLineRefused IsFirstLineFault refusal (Some input) → IsLiveDue (Scenario refusal) (first_line input) unwritten
 due_refused refusal input unwritten (inl (limit, long)) = record {
   too_long = λ more. limit;
   fault = λ short none. let few : length (first_line input) ≤ 16777216 = short in absurd (omega (arith, few, long));
@@ -66,6 +66,8 @@ due Usage (Some input) ends unread old new unwritten lived sound = absurd lived
 due (Scenario refusal) (Some input) ends unread old new unwritten lived sound = inl (due_refused refusal input unwritten lived.0)
 due (NotATrace fault) (Some input) ends unread old new unwritten lived sound = absurd lived
 due (BrokenOverlap fault) (Some input) ends unread old new unwritten lived sound = absurd lived
+due Unsafe (Some input) ends unread old new unwritten lived sound = absurd lived
+due (NotALog fault) (Some input) ends unread old new unwritten lived sound = absurd lived
 due ReadFault (Some input) ends unread old new unwritten lived sound = absurd (sound lived.0)
 due WriteFault (Some input) ends unread old new unwritten lived sound =
     inl (due_session WriteFault input lived.1.scenario lived.1.requests unwritten lived.1.input (λ put. absurd (put lived.0)))

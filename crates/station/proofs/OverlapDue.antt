@@ -7,7 +7,7 @@ use Rattle.trace_check.specs.declared.faults.TraceFault.{TraceFault}
 use Rattle.trace_laws.specs.Traces.{IsTrace, IsCheckable}
 use Rattle.trace_laws.specs.Laws.{FaultsAreDetermined, TracesHaveNoFault}
 use Rattle.station.specs.declared.status.Status.{Status}
-use Rattle.station.specs.declared.status.Status.TheVariants.{Done, Usage, Scenario, NotATrace, Overlap as BrokenOverlap, ReadFault, WriteFault, NoMemory}
+use Rattle.station.specs.declared.status.Status.TheVariants.{Done, Usage, Scenario, NotATrace, Overlap as BrokenOverlap, Unsafe, NotALog, ReadFault, WriteFault, NoMemory}
 use Rattle.station.specs.Bytes.{AreInput, nothing_left}
 use Rattle.station.specs.Io.{io}
 use Rattle.station.specs.Answers.{WritesText}
@@ -41,6 +41,8 @@ told_overlap asked Usage left ends unread old new unwritten text is so = absurd 
 told_overlap asked (Scenario refusal) left ends unread old new unwritten text is so = absurd so
 told_overlap asked (NotATrace fault) left ends unread old new unwritten text is so = absurd so
 told_overlap asked (BrokenOverlap fault) left ends unread old new unwritten text is so = absurd so
+told_overlap asked Unsafe left ends unread old new unwritten text is so = absurd so
+told_overlap asked (NotALog fault) left ends unread old new unwritten text is so = absurd so
 told_overlap asked ReadFault left ends unread old new unwritten text is so = absurd so
 told_overlap asked NoMemory left ends unread old new unwritten text is so = absurd so
 
@@ -51,6 +53,8 @@ written_done Usage old new unwritten text so put = absurd so
 written_done (Scenario refusal) old new unwritten text so put = absurd so
 written_done (NotATrace fault) old new unwritten text so put = absurd so
 written_done (BrokenOverlap fault) old new unwritten text so put = absurd so
+written_done Unsafe old new unwritten text so put = absurd so
+written_done (NotALog fault) old new unwritten text so put = absurd so
 written_done ReadFault old new unwritten text so put = absurd so
 written_done NoMemory old new unwritten text so put = absurd so
 

@@ -13,6 +13,7 @@ use Rattle.session_laws.specs.Dialogue.{early_load, early_priority, early_path, 
 use Rattle.station.specs.Bytes.{AreInput, nothing_left}
 use Rattle.station.specs.Answers.{IsRead, IsLengthLimit, IsRefused}
 use Rattle.station.specs.Lived.{IsFirstLineFault, IsLineRefused}
+use Rattle.station.specs.Judged.{IsHeadFault}
 
 -- a first fault is never that of the whole input's length
 pub fault_elsewhere : (bytes : List ℕ) (refusal : Refusal) → IsFirstFault bytes refusal → IsLengthLimit refusal → ⊥
@@ -61,13 +62,19 @@ order_elsewhere s (Field path) fault limit = limit
 order_elsewhere s (Limit path) fault limit = early_named (early_load s) (early_priority s) (string_bytes path) fault limit
 order_elsewhere s (Broken cabinet rule row) fault limit = limit
 
-line_elsewhere : (line : List ℕ) (refusal : Refusal) → IsFirstLineFault line refusal → IsLengthLimit refusal → ⊥
+pub line_elsewhere : (line : List ℕ) (refusal : Refusal) → IsFirstLineFault line refusal → IsLengthLimit refusal → ⊥
 line_elsewhere line refusal (inl fault) limit = fault_elsewhere line refusal fault limit
 line_elsewhere line refusal (inr (s, is, fault)) limit = order_elsewhere s refusal fault limit
 
--- the first line was read, and this is its first fault
-pub line_refused : (left : Option (List ℕ)) (line slice : List ℕ) (refusal : Refusal) → IfSome left (λ input. line ≡ first_line input) → slice ≡ line
-    → length line ≤ 16777216 → IsFirstLineFault slice refusal → IsLineRefused refusal left
-line_refused left line slice refusal first e short fault =
-    let its : IsFirstLineFault line refusal = subst (λ (x : List ℕ). IsFirstLineFault x refusal) e fault in
-    inr (line_elsewhere line refusal its, record { line = line; first = first; short = short; fault = its })
+-- nor is that of a first line of a log
+pub head_elsewhere : (line : List ℕ) (refusal : Refusal) → IsHeadFault line refusal → IsLengthLimit refusal → ⊥
+head_elsewhere line refusal (inl (bytes, is, fault)) limit = fault_elsewhere bytes refusal fault limit
+head_elsewhere line refusal (inr (none, is)) limit = let none : ⊥ = subst IsLengthLimit is limit in none
+
+module _ (IsFirst : List ℕ → Refusal → Type 0) (elsewhere : (line : List ℕ) (refusal : Refusal) → IsFirst line refusal → IsLengthLimit refusal → ⊥) where
+  -- the first line was read, and this is its first fault
+  pub line_refused : (left : Option (List ℕ)) (line slice : List ℕ) (refusal : Refusal) → IfSome left (λ input. line ≡ first_line input) → slice ≡ line
+      → length line ≤ 16777216 → IsFirst slice refusal → IsLineRefused IsFirst refusal left
+  line_refused left line slice refusal first e short fault =
+      let its : IsFirst line refusal = subst (λ (x : List ℕ). IsFirst x refusal) e fault in
+      inr (elsewhere line refusal its, record { line = line; first = first; short = short; fault = its })

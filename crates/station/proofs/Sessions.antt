@@ -15,7 +15,7 @@ use Rattle.session_laws.specs.Dialogue.{answer_text, answers_text, dot, requests
 use Rattle.live_session.specs.declared.session.Session.{Session}
 use Rattle.live_session.specs.Standing.{SessionStands}
 use Rattle.station.specs.declared.status.Status.{Status}
-use Rattle.station.specs.declared.status.Status.TheVariants.{Done, Usage, Scenario, NotATrace, Overlap as BrokenOverlap, ReadFault, WriteFault, NoMemory}
+use Rattle.station.specs.declared.status.Status.TheVariants.{Done, Usage, Scenario, NotATrace, Overlap as BrokenOverlap, Unsafe, NotALog, ReadFault, WriteFault, NoMemory}
 use Rattle.session_laws.specs.Laws.{SessionIsRun}
 use Rattle.station.specs.Io.{io}
 use Rattle.station.specs.Answers.{WritesText}
@@ -53,12 +53,12 @@ pub record MoreAhead (left : Option (List ℕ)) (lines : List (List ℕ)) : Type
   pub more : List (List ℕ)
   pub all : IfSome left (λ input. lines ++ more ≡ requests_in input)
 
-more_ahead : (left ahead : Option (List ℕ)) (lines : List (List ℕ)) → AreAhead left ahead lines → MoreAhead left lines
+pub more_ahead : (left ahead : Option (List ℕ)) (lines : List (List ℕ)) → AreAhead left ahead lines → MoreAhead left lines
 more_ahead None ahead lines are = record { more = []; all = tt }
 more_ahead (Some input) ahead lines (rest, told, are) = record { more = whole_lines rest; all = sym are }
 
 -- with a line given, the others are still ahead
-line_behind : (left ahead behind : Option (List ℕ)) (lines : List (List ℕ)) (line : List ℕ) → AreAhead left ahead lines → GivesLine ahead behind line
+pub line_behind : (left ahead behind : Option (List ℕ)) (lines : List (List ℕ)) (line : List ℕ) → AreAhead left ahead lines → GivesLine ahead behind line
     → AreAhead left behind (lines ++ line ∷ [])
 line_behind None ahead behind lines line are gives = tt
 line_behind (Some input) ahead behind lines line (rest, told, are) gives =
@@ -70,17 +70,17 @@ line_behind (Some input) ahead behind lines line (rest, told, are) gives =
     )
 
 -- with none ahead, they are all requests of the input
-none_ahead : (left ahead : Option (List ℕ)) (lines : List (List ℕ)) → AreAhead left ahead lines → HasNoLine ahead → IfSome left (λ input. lines ≡ requests_in input)
+pub none_ahead : (left ahead : Option (List ℕ)) (lines : List (List ℕ)) → AreAhead left ahead lines → HasNoLine ahead → IfSome left (λ input. lines ≡ requests_in input)
 none_ahead None ahead lines are none = tt
 none_ahead (Some input) ahead lines (rest, told, are) none =
     let lacks = subst HasNoLine told none in
     sym (append-nil lines) ∙ ap (λ (ls : List (List ℕ)). lines ++ ls) (sym (whole_lines-none rest lacks)) ∙ sym are
 
 -- one text after another
-appends_then : (old mid new : Option (List ℕ)) (p q : List ℕ) → Appends old mid p → Appends mid new q → Appends old new (p ++ q)
+pub appends_then : (old mid new : Option (List ℕ)) (p q : List ℕ) → Appends old mid p → Appends mid new q → Appends old new (p ++ q)
 appends_then old mid new p q one two = two ∙ ap (λ (o : Option (List ℕ)). appended o q) one ∙ appended-appended old p q
 
-front_then : (old mid new : Option (List ℕ)) (p q later : List ℕ) → Appends old mid p → AppendsFront mid new q → AppendsFront old new (p ++ (q ++ later))
+pub front_then : (old mid new : Option (List ℕ)) (p q later : List ℕ) → Appends old mid p → AppendsFront mid new q → AppendsFront old new (p ++ (q ++ later))
 front_then old mid new p q later one (rest, some, (front, e, two)) = (
   rest ++ later,
   (λ none. some (empty_front rest later none)),
@@ -95,7 +95,7 @@ front_then old mid new p q later one (rest, some, (front, e, two)) = (
     empty_front [] ys none = refl
     empty_front (x ∷ xs) ys none = absurd (cc none)
 
-whole_front : (old new : Option (List ℕ)) (p q : List ℕ) → q ≢ [] → Appends old new p → AppendsFront old new (p ++ q)
+pub whole_front : (old new : Option (List ℕ)) (p q : List ℕ) → q ≢ [] → Appends old new p → AppendsFront old new (p ++ q)
 whole_front old new p q some one = (q, some, (p, refl, one))
 
 module _ (s : ScenarioContent) where
@@ -198,7 +198,7 @@ module _ (s : ScenarioContent) where
   }
 
 -- a line that was skipped, since it has more than 4,096 bytes; where the source tells none, some such line
-long_line : (before behind : Option (List ℕ)) → PassesLong before behind → (line : List ℕ) × GivesLine before behind line × (4096 < length line)
+pub long_line : (before behind : Option (List ℕ)) → PassesLong before behind → (line : List ℕ) × GivesLine before behind line × (4096 < length line)
 long_line None behind passes = (replicate 4097 0, passes, omega (arith, length-replicate {A = ℕ} 4097 0))
 long_line (Some bytes) behind (line, rest, told, cut, long) = (line, (rest, told, cut), long)
 
@@ -249,6 +249,8 @@ told_ends Usage text unread failed unwritten left old mid new s other since told
 told_ends (Scenario refusal) text unread failed unwritten left old mid new s other since told short = absurd told
 told_ends (NotATrace fault) text unread failed unwritten left old mid new s other since told short = absurd told
 told_ends (BrokenOverlap fault) text unread failed unwritten left old mid new s other since told short = absurd told
+told_ends Unsafe text unread failed unwritten left old mid new s other since told short = absurd told
+told_ends (NotALog fault) text unread failed unwritten left old mid new s other since told short = absurd told
 told_ends ReadFault text unread failed unwritten left old mid new s other since told short = absurd told
 told_ends WriteFault text unread failed unwritten left old mid new s other since told short = (since told.0, short told.1)
 told_ends NoMemory text unread failed unwritten left old mid new s other since told short = absurd told
@@ -276,6 +278,8 @@ opening_stops Usage text failed old new s other same told = absurd told
 opening_stops (Scenario refusal) text failed old new s other same told = absurd told
 opening_stops (NotATrace fault) text failed old new s other same told = absurd told
 opening_stops (BrokenOverlap fault) text failed old new s other same told = absurd told
+opening_stops Unsafe text failed old new s other same told = absurd told
+opening_stops (NotALog fault) text failed old new s other same told = absurd told
 opening_stops ReadFault text failed old new s other same told = absurd told
 opening_stops WriteFault text failed old new s other same told = (told.0, subst (λ (t : List ℕ). AppendsFront old new t) same told.1)
 opening_stops NoMemory text failed old new s other same told = absurd told
@@ -310,6 +314,8 @@ opening_lived Usage left ends behind old new unread unwritten s opened stops = a
 opening_lived (Scenario refusal) left ends behind old new unread unwritten s opened stops = absurd stops
 opening_lived (NotATrace fault) left ends behind old new unread unwritten s opened stops = absurd stops
 opening_lived (BrokenOverlap fault) left ends behind old new unread unwritten s opened stops = absurd stops
+opening_lived Unsafe left ends behind old new unread unwritten s opened stops = absurd stops
+opening_lived (NotALog fault) left ends behind old new unread unwritten s opened stops = absurd stops
 opening_lived ReadFault left ends behind old new unread unwritten s opened stops = absurd stops
 opening_lived WriteFault left ends behind old new unread unwritten s opened stops = (
   stops.0,
@@ -347,6 +353,8 @@ module _ (left ends behind old new : Option (List ℕ)) (s : ScenarioContent) (o
     ends_lived (Scenario refusal) unread since unwritten put wider more ended = absurd ended
     ends_lived (NotATrace fault) unread since unwritten put wider more ended = absurd ended
     ends_lived (BrokenOverlap fault) unread since unwritten put wider more ended = absurd ended
+    ends_lived Unsafe unread since unwritten put wider more ended = absurd ended
+    ends_lived (NotALog fault) unread since unwritten put wider more ended = absurd ended
     ends_lived ReadFault unread since unwritten put wider more ended = (wider ended.0, inr (lived_short ended.1))
     ends_lived WriteFault unread since unwritten put wider more ended = (more ended.0, lived_short ended.1)
     ends_lived NoMemory unread since unwritten put wider more ended = inr (lived_short ended)

@@ -3,16 +3,19 @@ use Rattle.std.proofs.Common.{◌≡◌, ◌⊎◌, inl, inr, ◌↔◌, ℕ, Li
 use Rattle.scenario_data.specs.declared.refusal.Refusal.{Refusal}
 use Rattle.trace_check.specs.declared.faults.TraceFault.{TraceFault}
 use Rattle.command_words.specs.declared.command.Command.{Command}
-use Rattle.command_words.specs.declared.command.Command.TheVariants.{Run, Check, Generate, Survey, Band, Respond, Overlaps, Live, Help, Version}
+use Rattle.command_words.specs.declared.command.Command.TheVariants.{Run, Check, Generate, Survey, Band, Respond, Overlaps, Live, Judge, Help, Version}
 use Rattle.command_words.specs.declared.command.Overlap.{Overlap}
-use Rattle.command_words.specs.Words.{IsRun, IsCheck, IsOverlaps, IsLive, AskFor, IsCommand}
+use Rattle.judge_laws.specs.declared.Terms.{Terms}
+use Rattle.command_words.specs.Words.{IsRun, IsCheck, IsOverlaps, IsLive, IsJudge, AskFor, IsCommand}
 use Rattle.overlap_run.specs.declared.faults.OverlapFault.{OverlapFault}
 use Rattle.station.specs.declared.status.Status.{Status}
-use Rattle.station.specs.declared.status.Status.TheVariants.{Usage, Scenario, NotATrace, Overlap as BrokenOverlap, ReadFault, NoMemory}
+use Rattle.station.specs.declared.status.Status.TheVariants.{Usage, Scenario, NotATrace, Overlap as BrokenOverlap, Unsafe, NotALog, ReadFault, NoMemory}
+use Rattle.station.specs.declared.status.LogFault.{LogFault}
 use Rattle.station.specs.Io.{Io}
 use Rattle.station.specs.Answers.{StopsShort}
 use Rattle.station.specs.Lived.{LivesShort}
-use Rattle.station.specs.Commands.{Answered, ReadsNothing, NeedsNoInput, IsRefusedFor, LeavesRun, LeavesSession, Causes, Answers}
+use Rattle.station.specs.Judged.{EndsLog}
+use Rattle.station.specs.Commands.{Answered, ReadsNothing, NeedsNoInput, IsRefusedFor, LeavesRun, LeavesSession, LeavesLog, Causes, Answers}
 
 -- the words ask for one command, or for none
 pub one_command : (found : Option Command) (c d : Command) → found ≡ Some c → found ≡ Some d → c ≡ d
@@ -49,23 +52,30 @@ module _ (status : Status) (io : Io) where
       none Respond is = is.told
       none (Overlaps o) is = is.told
       none Live is = is.told
+      none (Judge terms) is = is.told
       none Help is = is
       none Version is = is
 
-  pub told_no_memory : (words : List (List ℕ)) (c : Command) → AskFor words c → Tells c status → status ≡ NoMemory
-      → (io.new ≡ io.old) ⊎ (LeavesRun words io ⊎ LeavesSession words io)
+  -- what is left where memory ran out
+  abbrev LeavesShort : List (List ℕ) → Type 0
+  LeavesShort words = (io.new ≡ io.old) ⊎ (LeavesRun words io ⊎ (LeavesSession words io ⊎ LeavesLog words NoMemory io))
+
+  pub told_no_memory : (words : List (List ℕ)) (c : Command) → AskFor words c → Tells c status → status ≡ NoMemory → LeavesShort words
   told_no_memory words c asked tells e = from c asked (subst (λ (x : Status). Tells c x) e tells)
     where
-      run : (workers : ℕ) → IsRun words workers → (io.new ≡ io.old) ⊎ StopsShort workers io.left io.ends io.old io.new
-          → (io.new ≡ io.old) ⊎ (LeavesRun words io ⊎ LeavesSession words io)
+      run : (workers : ℕ) → IsRun words workers → (io.new ≡ io.old) ⊎ StopsShort workers io.left io.ends io.old io.new → LeavesShort words
       run workers is (inl same) = inl same
       run workers is (inr short) = inr (inl (workers, is, short))
 
-      live : IsLive words → (io.new ≡ io.old) ⊎ LivesShort io.left io.old io.new → (io.new ≡ io.old) ⊎ (LeavesRun words io ⊎ LeavesSession words io)
+      live : IsLive words → (io.new ≡ io.old) ⊎ LivesShort io.left io.old io.new → LeavesShort words
       live is (inl same) = inl same
-      live is (inr short) = inr (inr (is, short))
+      live is (inr short) = inr (inr (inl (is, short)))
 
-      from : (d : Command) → AskFor words d → Tells d NoMemory → (io.new ≡ io.old) ⊎ (LeavesRun words io ⊎ LeavesSession words io)
+      judge : (terms : Terms) → IsJudge words terms → (io.new ≡ io.old) ⊎ EndsLog terms NoMemory io → LeavesShort words
+      judge terms is (inl same) = inl same
+      judge terms is (inr short) = inr (inr (inr (terms, is, short)))
+
+      from : (d : Command) → AskFor words d → Tells d NoMemory → LeavesShort words
       from (Run workers) is so = run workers is so.told
       from Check is so = inl so.0
       from (Generate seeding) is so = inl so
@@ -74,21 +84,29 @@ module _ (status : Status) (io : Io) where
       from Respond is so = inl so.told
       from (Overlaps o) is so = inl so.told
       from Live is so = live is so.told
+      from (Judge terms) is so = judge terms is so.told
       from Help is so = absurd so
       from Version is so = absurd so
 
-  pub told_read_fault : (words : List (List ℕ)) (c : Command) → AskFor words c → Tells c status → status ≡ ReadFault
-      → io.unread × ((io.new ≡ io.old) ⊎ LeavesSession words io)
+  -- what is left where a read failed
+  abbrev LeavesUnread : List (List ℕ) → Type 0
+  LeavesUnread words = (io.new ≡ io.old) ⊎ (LeavesSession words io ⊎ LeavesLog words ReadFault io)
+
+  pub told_read_fault : (words : List (List ℕ)) (c : Command) → AskFor words c → Tells c status → status ≡ ReadFault → io.unread × LeavesUnread words
   told_read_fault words c asked tells e = from c asked (subst (λ (x : Status). Tells c x) e tells)
     where
-      none : io.unread × (io.new ≡ io.old) → io.unread × ((io.new ≡ io.old) ⊎ LeavesSession words io)
+      none : io.unread × (io.new ≡ io.old) → io.unread × LeavesUnread words
       none (failed, same) = (failed, inl same)
 
-      live : IsLive words → (io.new ≡ io.old) ⊎ LivesShort io.left io.old io.new → (io.new ≡ io.old) ⊎ LeavesSession words io
+      live : IsLive words → (io.new ≡ io.old) ⊎ LivesShort io.left io.old io.new → LeavesUnread words
       live is (inl same) = inl same
-      live is (inr short) = inr (is, short)
+      live is (inr short) = inr (inl (is, short))
 
-      from : (d : Command) → AskFor words d → Tells d ReadFault → io.unread × ((io.new ≡ io.old) ⊎ LeavesSession words io)
+      judge : (terms : Terms) → IsJudge words terms → (io.new ≡ io.old) ⊎ EndsLog terms ReadFault io → LeavesUnread words
+      judge terms is (inl same) = inl same
+      judge terms is (inr short) = inr (inr (terms, is, short))
+
+      from : (d : Command) → AskFor words d → Tells d ReadFault → io.unread × LeavesUnread words
       from (Run workers) is so = none so.told
       from Check is so = none (so.1.told, so.0)
       from (Generate seeding) is so = absurd so
@@ -97,6 +115,7 @@ module _ (status : Status) (io : Io) where
       from Respond is so = none so.told
       from (Overlaps o) is so = none so.told
       from Live is so = (so.told.0, live is so.told.1)
+      from (Judge terms) is so = (so.told.0, judge terms is so.told.1)
       from Help is so = absurd so
       from Version is so = absurd so
 
@@ -112,7 +131,8 @@ module _ (status : Status) (io : Io) where
       from Band is so = (inr (inl (is, so.told.0)), so.told.1)
       from Respond is so = (inr (inr (inl (is, so.told.0))), so.told.1)
       from (Overlaps o) is so = absurd so.told
-      from Live is so = (inr (inr (inr (is, so.told.0))), so.told.1)
+      from Live is so = (inr (inr (inr (inl (is, so.told.0)))), so.told.1)
+      from (Judge terms) is so = (inr (inr (inr (inr ((terms, is), so.told.0)))), so.told.1)
       from Help is so = absurd so
       from Version is so = absurd so
 
@@ -129,6 +149,7 @@ module _ (status : Status) (io : Io) where
       from Respond is so = absurd so.told
       from (Overlaps o) is so = inr (o, is)
       from Live is so = absurd so.told
+      from (Judge terms) is so = absurd so.told
       from Help is so = absurd so
       from Version is so = absurd so
 
@@ -145,6 +166,39 @@ module _ (status : Status) (io : Io) where
       from Respond is so = absurd so.told
       from (Overlaps o) is so = (o, is)
       from Live is so = absurd so.told
+      from (Judge terms) is so = absurd so.told
+      from Help is so = absurd so
+      from Version is so = absurd so
+
+  pub told_unsafe : (words : List (List ℕ)) (c : Command) → AskFor words c → Tells c status → status ≡ Unsafe → (terms : Terms) × IsJudge words terms
+  told_unsafe words c asked tells e = from c asked (subst (λ (x : Status). Tells c x) e tells)
+    where
+      from : (d : Command) → AskFor words d → Tells d Unsafe → (terms : Terms) × IsJudge words terms
+      from (Run workers) is so = absurd so.told
+      from Check is so = absurd so.1.told
+      from (Generate seeding) is so = absurd so
+      from (Survey seeding) is so = absurd so
+      from Band is so = absurd so.told
+      from Respond is so = absurd so.told
+      from (Overlaps o) is so = absurd so.told
+      from Live is so = absurd so.told
+      from (Judge terms) is so = (terms, is)
+      from Help is so = absurd so
+      from Version is so = absurd so
+
+  pub told_no_log : (words : List (List ℕ)) (c : Command) (fault : LogFault) → AskFor words c → Tells c status → status ≡ NotALog fault → (terms : Terms) × IsJudge words terms
+  told_no_log words c fault asked tells e = from c asked (subst (λ (x : Status). Tells c x) e tells)
+    where
+      from : (d : Command) → AskFor words d → Tells d (NotALog fault) → (terms : Terms) × IsJudge words terms
+      from (Run workers) is so = absurd so.told
+      from Check is so = absurd so.1.told
+      from (Generate seeding) is so = absurd so
+      from (Survey seeding) is so = absurd so
+      from Band is so = absurd so.told
+      from Respond is so = absurd so.told
+      from (Overlaps o) is so = absurd so.told
+      from Live is so = absurd so.told
+      from (Judge terms) is so = (terms, is)
       from Help is so = absurd so
       from Version is so = absurd so
 
@@ -156,6 +210,8 @@ module _ (status : Status) (io : Io) where
     refused = λ r e. told_refused words c r asked tells e;
     no_trace = λ fault e. told_no_trace words c fault asked tells e;
     broken_overlap = λ fault e. told_broken words c fault asked tells e;
+    unsafe = λ e. told_unsafe words c asked tells e;
+    no_log = λ fault e. told_no_log words c fault asked tells e;
   }
 
   -- what an answer to the command that was found says, by the words
@@ -174,6 +230,7 @@ module _ (status : Status) (io : Io) where
         band = told Band;
         respond = told Respond;
         live = told Live;
+        judge = λ terms. told (Judge terms);
         causes = causes words c ((is c).0 some) tells;
       }
 
@@ -193,12 +250,15 @@ none_answers words found io none is =
       band = λ asked. absurd (never Band asked);
       respond = λ asked. absurd (never Respond asked);
       live = λ asked. absurd (never Live asked);
+      judge = λ terms asked. absurd (never (Judge terms) asked);
       causes = record {
         no_memory = λ e. absurd (cc);
         read_fault = λ e. absurd (cc);
         refused = λ r e. absurd (cc);
         no_trace = λ fault e. absurd (cc);
         broken_overlap = λ fault e. absurd (cc);
+        unsafe = λ e. absurd (cc);
+        no_log = λ fault e. absurd (cc);
       };
     }
 

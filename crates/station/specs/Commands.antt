@@ -3,7 +3,7 @@ use Rattle.std.specs.Prelude.{◌≡◌, ◌⊎◌, ℕ, List, Option}
 use Rattle.io_edge.specs.Edge.{Appends}
 use Rattle.trace_writer.specs.Bytes.{AppendsFront}
 use Rattle.command_words.specs.declared.command.Command.{Command}
-use Rattle.command_words.specs.declared.command.Command.TheVariants.{Run, Check, Generate, Survey, Band, Respond, Overlaps, Live, Help, Version}
+use Rattle.command_words.specs.declared.command.Command.TheVariants.{Run, Check, Generate, Survey, Band, Respond, Overlaps, Live, Judge, Help, Version}
 use Rattle.gen_arterial.specs.Written.{generated, generated_text}
 use Rattle.whole_run.specs.Counting.{surveyed_text}
 use Rattle.station.specs.declared.status.Status.{Status}
@@ -11,19 +11,22 @@ use Rattle.scenario_data.specs.declared.refusal.Refusal.{Refusal}
 use Rattle.scenario_read.specs.Answers.{IsFirstFault}
 use Rattle.band_report.specs.BandAnswer.{AsksOfBands, TellsBands, IsFirstBandFault}
 use Rattle.field_file.specs.FieldAnswer.{HasResult, TellsResult, IsFirstResultFault}
-use Rattle.command_words.specs.Words.{IsRun, IsCheck, IsGenerate, IsSurvey, IsBand, IsRespond, IsOverlaps, IsLive, IsHelp, IsVersion, AskFor}
+use Rattle.command_words.specs.Words.{IsRun, IsCheck, IsGenerate, IsSurvey, IsBand, IsRespond, IsOverlaps, IsLive, IsJudge, IsHelp, IsVersion, AskFor}
+use Rattle.judge_laws.specs.declared.Terms.{Terms}
 use Rattle.command_words.specs.declared.command.Seeding.{Seeding}
 use Rattle.command_words.specs.declared.command.Overlap.{Overlap}
 use Rattle.overlap_run.specs.declared.faults.OverlapFault.{OverlapFault}
 use Rattle.trace_check.specs.declared.faults.TraceFault.{TraceFault}
-use Rattle.station.specs.declared.status.Status.TheVariants.{Done, Scenario, NotATrace, Overlap as BrokenOverlap, ReadFault, WriteFault, NoMemory}
+use Rattle.station.specs.declared.status.Status.TheVariants.{Done, Scenario, NotATrace, Overlap as BrokenOverlap, Unsafe, NotALog, ReadFault, WriteFault, NoMemory}
 use Rattle.station.specs.declared.help.TheConstants.{HELP, VERSION}
 use Rattle.station.specs.Io.{Io}
 use Rattle.station.specs.Answers.{WritesText, StopsShort, RunAnswer, IsRefused}
 use Rattle.station.specs.Replied.{ReplyAnswer}
 use Rattle.station.specs.Checked.{CheckAnswer}
 use Rattle.station.specs.Overlapped.{OverlapAnswer}
-use Rattle.station.specs.Lived.{IsLineRefused, LivesShort, LiveAnswer}
+use Rattle.station.specs.Lived.{IsFirstLineFault, IsLineRefused, LivesShort, LiveAnswer}
+use Rattle.station.specs.declared.status.LogFault.{LogFault}
+use Rattle.station.specs.Judged.{EndsLog, IsHeadFault, JudgeAnswer}
 
 -- a text that the program makes was written completely; or a write failed, and a proper prefix of it was written; or
 -- there was not enough memory to make it, and nothing was written
@@ -43,6 +46,7 @@ Answered Band status io = ReplyAnswer TellsBands AsksOfBands IsFirstBandFault st
 Answered Respond status io = ReplyAnswer TellsResult HasResult IsFirstResultFault status io
 Answered (Overlaps o) status io = OverlapAnswer o status io
 Answered Live status io = LiveAnswer status io
+Answered (Judge terms) status io = JudgeAnswer terms status io
 Answered Help status io = WritesText status HELP.now io.unwritten io.old io.new
 Answered Version status io = WritesText status VERSION.now io.unwritten io.old io.new
 
@@ -54,19 +58,26 @@ ReadsNothing Band = ⊥
 ReadsNothing Respond = ⊥
 ReadsNothing (Overlaps o) = ⊥
 ReadsNothing Live = ⊥
+ReadsNothing (Judge terms) = ⊥
 ReadsNothing _ = Unit {0}
 
--- why an input is refused: the words run a scenario, ask for bands, give a field file or open a session, and the
--- refusal is one of such an input
+-- why an input is refused: the words run a scenario, ask for bands, give a field file, open a session or have a log
+-- judged, and the refusal is one of such an input
 abbrev pub IsRefusedFor : List (List ℕ) → Refusal → Option (List ℕ) → Option (List ℕ) → Type 0
 IsRefusedFor words refusal left ends =
     (((workers : ℕ) × IsRun words workers) × IsRefused IsFirstFault refusal left ends)
     ⊎ ((IsBand words × IsRefused IsFirstBandFault refusal left ends)
-    ⊎ ((IsRespond words × IsRefused IsFirstResultFault refusal left ends) ⊎ (IsLive words × IsLineRefused refusal left)))
+    ⊎ ((IsRespond words × IsRefused IsFirstResultFault refusal left ends)
+    ⊎ ((IsLive words × IsLineRefused IsFirstLineFault refusal left)
+    ⊎ (((terms : Terms) × IsJudge words terms) × IsLineRefused IsHeadFault refusal left))))
 
 -- a session that stopped short has left this
 abbrev pub LeavesSession : List (List ℕ) → Io → Type 0
 LeavesSession words io = IsLive words × LivesShort io.left io.old io.new
+
+-- the judging of a log that stopped short, with this answer, has left this
+abbrev pub LeavesLog : List (List ℕ) → Status → Io → Type 0
+LeavesLog words status io = (terms : Terms) × IsJudge words terms × EndsLog terms status io
 
 -- and a run of a scenario this
 abbrev pub LeavesRun : List (List ℕ) → Io → Type 0
@@ -76,16 +87,18 @@ LeavesRun words io = (workers : ℕ) × IsRun words workers × StopsShort worker
 abbrev pub NeedsNoInput : List (List ℕ) → Type 0
 NeedsNoInput words = (command : Command) × AskFor words command × ReadsNothing command
 
--- the cause of each answer, for any words. Out of memory: nothing was written, or a run or a session stopped while it
--- wrote. A failed read: nothing was written, or a session stopped. Each refusal: nothing was written; it names the
--- first fault of the input that `run`, `band` or `respond` read, or of the first line that `live` read. The path `.`
--- with `Limit` means the length of the input or of the line, and no other fault has it.
+-- the cause of each answer, for any words. Out of memory: nothing was written, or a run, a session or a judging stopped
+-- while it wrote. A failed read: nothing was written, or a session or a judging stopped. Each refusal: nothing was
+-- written; it names the first fault of the input that `run`, `band` or `respond` read, or of the first line that `live`
+-- or `judge` read. The path `.` with `Limit` means the length of the input or of the line, and no other fault has it.
 pub record Causes (words : List (List ℕ)) (status : Status) (io : Io) : Type 0 where
-  pub no_memory : status ≡ NoMemory → (io.new ≡ io.old) ⊎ (LeavesRun words io ⊎ LeavesSession words io)
-  pub read_fault : status ≡ ReadFault → io.unread × ((io.new ≡ io.old) ⊎ LeavesSession words io)
+  pub no_memory : status ≡ NoMemory → (io.new ≡ io.old) ⊎ (LeavesRun words io ⊎ (LeavesSession words io ⊎ LeavesLog words NoMemory io))
+  pub read_fault : status ≡ ReadFault → io.unread × ((io.new ≡ io.old) ⊎ (LeavesSession words io ⊎ LeavesLog words ReadFault io))
   pub refused : (refusal : Refusal) → status ≡ Scenario refusal → IsRefusedFor words refusal io.left io.ends × (io.new ≡ io.old)
   pub no_trace : (fault : TraceFault) → status ≡ NotATrace fault → IsCheck words ⊎ ((o : Overlap) × IsOverlaps words o)
   pub broken_overlap : (fault : OverlapFault) → status ≡ BrokenOverlap fault → (o : Overlap) × IsOverlaps words o
+  pub unsafe : status ≡ Unsafe → (terms : Terms) × IsJudge words terms
+  pub no_log : (fault : LogFault) → status ≡ NotALog fault → (terms : Terms) × IsJudge words terms
 
 -- what an answer says, by the words. Help and version: the whole text was written, or a write failed and a prefix of it
 -- was written. Generate: the same holds for the text of the scenario that these numbers give, or there was not enough
@@ -103,4 +116,5 @@ pub record Answers (words : List (List ℕ)) (status : Status) (io : Io) : Type 
   pub band : IsBand words → ReplyAnswer TellsBands AsksOfBands IsFirstBandFault status io
   pub respond : IsRespond words → ReplyAnswer TellsResult HasResult IsFirstResultFault status io
   pub live : IsLive words → LiveAnswer status io
+  pub judge : (terms : Terms) → IsJudge words terms → JudgeAnswer terms status io
   pub causes : Causes words status io

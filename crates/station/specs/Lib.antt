@@ -7,3 +7,5 @@ pub mod Overlapped
 pub mod Commands
 pub mod Lived
 pub mod Living
+pub mod Judged
+pub mod Judging

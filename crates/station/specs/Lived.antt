@@ -53,21 +53,22 @@ IsTooLongLine left = IfSome left (λ input. 16777216 < length (first_line input)
 abbrev pub IsFirstLineFault : List ℕ → Refusal → Type 0
 IsFirstLineFault line refusal = IsFirstFault line refusal ⊎ ((s : ScenarioContent) × IsScenario line s × IsOrderFault s refusal)
 
--- the first line is within the limit, and this is its first fault
-pub record HasLineFault (refusal : Refusal) (left : Option (List ℕ)) : Type 0 where
+-- the first line is within the limit, and this is its first fault, by what a first fault is of lines of its kind
+pub record HasLineFault (IsFirst : List ℕ → Refusal → Type 0) (refusal : Refusal) (left : Option (List ℕ)) : Type 0 where
   pub line : List ℕ
   pub first : IfSome left (λ input. line ≡ first_line input)
   pub short : IsShort line
-  pub fault : IsFirstLineFault line refusal
+  pub fault : IsFirst line refusal
 
 -- why the first line is refused: its length, which has its own refusal, or its first fault
-abbrev pub IsLineRefused : Refusal → Option (List ℕ) → Type 0
-IsLineRefused refusal left = (IsLengthLimit refusal × IsTooLongLine left) ⊎ ((IsLengthLimit refusal → ⊥) × HasLineFault refusal left)
+abbrev pub IsLineRefused : (List ℕ → Refusal → Type 0) → Refusal → Option (List ℕ) → Type 0
+IsLineRefused IsFirst refusal left =
+    (IsLengthLimit refusal × IsTooLongLine left) ⊎ ((IsLengthLimit refusal → ⊥) × HasLineFault IsFirst refusal left)
 
 -- what an answer to `live` says about the input and the output
 abbrev pub Lived : Status → Io → Type 0
 Lived Done io = LivesWhole io.left io.old io.new
-Lived (Scenario refusal) io = IsLineRefused refusal io.left × (io.new ≡ io.old)
+Lived (Scenario refusal) io = IsLineRefused IsFirstLineFault refusal io.left × (io.new ≡ io.old)
 Lived ReadFault io = io.unread × ((io.new ≡ io.old) ⊎ LivesShort io.left io.old io.new)
 Lived WriteFault io = io.unwritten × LivesShort io.left io.old io.new
 Lived NoMemory io = (io.new ≡ io.old) ⊎ LivesShort io.left io.old io.new

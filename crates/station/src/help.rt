@@ -34,6 +34,13 @@ proved that its trace is exactly the one that the definition prescribes.
       Each is answered, before more is read, by the lines of the trace that it
       causes and a line with a dot. An invalid request is answered by one line
       that names the wrong part, and changes nothing. docs/LIVE.md has details.
+  arterial judge [--joined] [--tolerance N] < LOG
+      Judges the log of any controllers: the first line of standard input has the
+      scenario of a street, as in a trace; the lines after it are lines of a
+      trace. Writes a line for each breach that a line shows, before more is
+      read; then the intervals that stand longer than their time, and the totals.
+      With --tolerance, lengths may differ by N ticks (0 to 20). With --joined,
+      the log begins in the middle of what is shown. docs/JUDGE.md has details.
   arterial band < STREET
       Reads a JSON object (at most 16,777,216 bytes) from standard input: a
       scenario, one of its sections, a pattern, and the travel time in ticks
@@ -65,9 +72,9 @@ proved that its trace is exactly the one that the definition prescribes.
 
 Exit status: 0 done, 1 unknown command or wrong arguments, 2 the scenario is
 refused, 3 standard input could not be read, 4 standard output could not be
-written, 5 the text is not a trace, 6 out of memory, 7 the overlap breaks a rule.
-After 4, after 6 of a run, and after 3 and 6 of a session, the output is an
-incomplete prefix.
+written, 5 the text is not a trace or not a log, 6 out of memory, 7 the overlap
+breaks a rule, 8 the log shows breaches. After 4, after 6 of a run, and after 3
+and 6 of a session or a log, the output is an incomplete prefix.
 
 docs/SCENARIO.md explains scenarios, the rules of tables, and refusals;
 docs/FIELD-FILE.md field files, docs/BANDS.md bands, docs/TRACE.md traces;

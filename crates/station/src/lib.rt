@@ -7,6 +7,7 @@ mod bytes;
 mod checking;
 mod help;
 mod input;
+mod judging;
 mod living;
 mod overlapping;
 mod responding;
@@ -14,8 +15,9 @@ mod status;
 mod texts;
 mod top;
 
+pub use judge_session::LineFault;
 pub use overlap_run::OverlapFault;
 pub use scenario_data::Refusal;
-pub use status::Status;
+pub use status::{LogFault, Status};
 pub use top::station;
 pub use trace_check::TraceFault;

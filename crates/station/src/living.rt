@@ -13,11 +13,11 @@ ghost use Rattle.session_laws.specs.Answers.{Lines, end_of_input_lines, open_lin
 ghost use Rattle.session_laws.specs.Dialogue.{answer_text};
 ghost use Rattle.live_session.specs.Standing.{SessionStands};
 ghost use Rattle.station.specs.Io.{io_of, Counts};
-ghost use Rattle.station.specs.Lived.{IsLineRefused, LiveAnswer};
+ghost use Rattle.station.specs.Lived.{IsFirstLineFault, IsLineRefused, LiveAnswer};
 ghost use Rattle.station.specs.Living.{IsOpened, IsAnswering, AnswersThis, AnswersNext, Ends, StopsAtOpening};
 ghost use Rattle.station.specs.declared.status.Status.{Status as StatusRow};
 
-use crate::input::{SCENARIO_LIMIT, Unread, too_long};
+use crate::input::{Unread, first_line, next_line};
 use crate::status::Status;
 use crate::texts::tell;
 use io_edge::{Sink, Source};
@@ -25,7 +25,7 @@ use live_session::{Session, by_rounds};
 use scenario_data::{ReadFail, Scenario};
 use scenario_file::read;
 use session_laws::sessions_are_runs;
-use session_words::{FirstStop, LineReader, LineStop, Next};
+use session_words::{LineReader, Next};
 use sig_types::NoMemory;
 use std::alloc::Global;
 
@@ -40,15 +40,13 @@ fn base<S: Source>(
     ensures opened { IfOk result (λ s. IsOpened (S.left source.old) (unread reader.new (S.left source.new)) (scenario_content s)) }
     ensures runnable { IfOk result (λ s. Runnable (scenario_content s)) }
     ensures fault { result ≡ Err Unread.Fault → Rises (S.faults source.old) (S.faults source.new) }
-    ensures refused { (r : Refusal) → result ≡ Err (Unread.Refused r) → IsLineRefused r (S.left source.old) }
+    ensures refused { (r : Refusal) → result ≡ Err (Unread.Refused r) → IsLineRefused IsFirstLineFault r (S.left source.old) }
     ensures exact { OnOk result (Stays S.counts_exactly (S.faults source.old) (S.faults source.new)) }
     ensures kept { S.faults source.old ≤ S.faults source.new }
 {
-    let line = match reader.first(alloc, source, SCENARIO_LIMIT) {
+    let line = match first_line(alloc, reader, source) {
         Ok(line) => line,
-        Err(FirstStop::Fault) => return Err(Unread::Fault),
-        Err(FirstStop::TooLong) => return Err(too_long(alloc)),
-        Err(FirstStop::NoMemory) => return Err(Unread::NoMemory),
+        Err(unread) => return Err(unread),
     };
     let scenario = match read(alloc, &line) {
         Ok(scenario) => scenario,
@@ -131,12 +129,11 @@ impl Dialogue {
         ensures kept { S.faults source.old ≤ S.faults source.new }
     {
         self.answer.clear();
-        match self.reader.next(source) {
+        match next_line(&mut self.reader, source) {
             Ok(Next::Line) => self.answer_line(),
             Ok(Next::Long) => self.answer_long(),
             Ok(Next::End) => self.answer_end(),
-            Err(LineStop::Fault) => Err(Status::ReadFault),
-            Err(LineStop::Endless) => Err(Status::NoMemory),
+            Err(status) => Err(status),
         }
     }
 

@@ -1,8 +1,17 @@
 //! What the program answers.
 
+use judge_session::LineFault;
 use overlap_run::OverlapFault;
 use scenario_data::Refusal;
 use trace_check::TraceFault;
+
+/// A line of a log that can't follow the lines before it.
+#[derive(Clone, Copy, PartialEq, Eq)]
+pub struct LogFault {
+    /// The number of the line, counted from 1; line 1 has the scenario.
+    pub line: u64,
+    pub fault: LineFault,
+}
 
 /// What the program answers.
 #[derive(Drop)]
@@ -18,7 +27,11 @@ pub enum Status {
     NotATrace(TraceFault),
     /// The overlap breaks a rule at the cabinet of the trace: the first that it breaks, and nothing was written.
     Overlap(OverlapFault),
-    /// A read failed, and nothing was written; of a session, a prefix of its answers.
+    /// The input is a log, and shows breaches: all of them were written.
+    Unsafe,
+    /// The input is not a log: its first line that can't follow. What the lines before it show was written.
+    NotALog(LogFault),
+    /// A read failed, and nothing was written; of a session or a log, a prefix of its answers.
     ReadFault,
     /// A write failed: a prefix of the text was written, and not all of it.
     WriteFault,

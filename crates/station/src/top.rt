@@ -16,6 +16,7 @@ use crate::asking::band;
 use crate::checking::check_input;
 use crate::help::{HELP, VERSION};
 use crate::input::{Unread, whole_input};
+use crate::judging::judge;
 use crate::living::live;
 use crate::overlapping::overlaps;
 use crate::responding::respond;
@@ -101,6 +102,7 @@ fn answer<R: Threads + Sync, S: Source, K: Sink, G: Gate + Sync>(
         Command::Respond => respond(alloc, source, sink),
         Command::Overlaps(overlap) => overlaps(alloc, overlap, source, sink),
         Command::Live => live(alloc, source, sink),
+        Command::Judge(terms) => judge(alloc, terms, source, sink),
         Command::Help => tell(sink, HELP.as_bytes()),
         Command::Version => tell(sink, VERSION.as_bytes()),
     }
@@ -109,16 +111,17 @@ fn answer<R: Threads + Sync, S: Source, K: Sink, G: Gate + Sync>(
 /// All that the program does: `run` reads a scenario from the source and writes its trace to the sink; `check` reads a
 /// text and answers whether it is a trace; `overlaps` reads a trace, and writes what an overlap shows over it; `live`
 /// reads a scenario and requests, line by line, and writes the answer to each (`Answers.live`: the bytes written are
-/// exactly these answers, in order. That an answer is written before more is read is tested, not proved); `band` reads
-/// a band file, and writes its widest bands; `respond` reads a field file, and writes the scenario that its detectors
-/// and its traffic make; `generate` writes a scenario, `survey` the totals of its run, `--help` and `--version` a text,
-/// and they read nothing.  The arguments are those after the program's name. `run --workers N`, N 0 to 8, has N workers
-/// bring the items of each round to the cabinets, each worker in a thread of its own if one can be started; with 0, as
-/// without the option, they come in the serial order. Each worker calls the gate before each act, but not in a round in
-/// which no other order exists: with one worker, or with items of one pass only at each cabinet. A scenario, or what
-/// `band` or `respond` reads, has at most 16,777,216 bytes, as has the first line that `live` reads; a trace has at
-/// most 67,108,864. The answer may be `NoMemory` wherever memory is taken; of every other answer the clauses say what
-/// it means for the input and the faults.
+/// exactly these answers, in order. That an answer is written before more is read is tested, not proved); `judge` reads
+/// a scenario and the lines of a log, and writes what each line breaks (`Answers.judge`; a log without a breach is
+/// safe); `band` reads a band file, and writes its widest bands; `respond` reads a field file, and writes the scenario
+/// that its detectors and its traffic make; `generate` writes a scenario, `survey` the totals of its run, `--help` and
+/// `--version` a text, and they read nothing.  The arguments are those after the program's name. `run --workers N`, N 0
+/// to 8, has N workers bring the items of each round to the cabinets, each worker in a thread of its own if one can be
+/// started; with 0, as without the option, they come in the serial order. Each worker calls the gate before each act,
+/// but not in a round in which no other order exists: with one worker, or with items of one pass only at each cabinet.
+/// A scenario, or what `band` or `respond` reads, has at most 16,777,216 bytes, as has the first line that `live` or
+/// `judge` reads; a trace has at most 67,108,864. The answer may be `NoMemory` wherever memory is taken; of every other
+/// answer the clauses say what it means for the input and the faults.
 pub fn station<R: Threads + Sync, S: Source, K: Sink, G: Gate + Sync>(
     rt: &R,
     alloc: Global,

@@ -34,7 +34,7 @@ def more() -> str:
     return (
         "\nThese commands are not proved (arterial COMMAND --help shows the options of each):\n\n"
         + listed("  arterial ", others())
-        + "\nrun, check, overlaps, band and respond also accept the name of a file in place of < FILE.\n"
+        + "\nrun, check, overlaps, judge, band and respond also accept the name of a file in place of < FILE.\n"
         "With a file, an invalid scenario is explained, and check also shows the line read and the\nexpected line.\n"
     )
 
@@ -45,7 +45,7 @@ def listed(head: str, known: Iterable[words.Word]) -> str:
 
 
 def short() -> str:
-    """Returns the short help, of 20 lines at most."""
+    """Returns the short help, which fits a terminal of 24 lines."""
     return (
         "usage: arterial COMMAND ..\n"
         + listed("  ", words.OF_PROGRAM)

@@ -21,7 +21,7 @@ from streettools.shared.status import Status
 
 from . import crates, due, help, hint, keeping, kit, overlap, refused, source
 
-READERS = ("run", "check", "overlaps", "band", "respond")
+READERS = ("run", "check", "overlaps", "judge", "band", "respond")
 """Commands that read standard input."""
 
 NO_TRACE, NO_OVERLAP, REFUSED = 5, 7, 2

@@ -15,12 +15,13 @@ EXAMPLES = (
     "./arterial run scenarios/night-download.json | ./arterial check",
     "./arterial overlaps --cabinet 1 --parents 0203 --trail 5 --yellow 30 --red 10 trace",
     "./arterial live < scenarios/session.dialogue",
+    "./arterial run scenarios/three-rounds.json | ./arterial judge",
     "./arterial band scenarios/street.bands",
     "./arterial respond scenarios/morning-peak.field.json | ./arterial run",
     "./arterial generate --seed 1 --cabinets 4 --rounds 90 | ./arterial run",
 )
 LAUNCHER = (
-    "The launcher ./arterial accepts the name of a file after run, check, overlaps, band and respond, in place of "
+    "The launcher ./arterial accepts the name of a file after run, check, overlaps, judge, band and respond, in place of "
     "standard input. arterial COMMAND --help shows the help of one command. As long as no proved program exists, the "
     "unproved program answers, and a line on standard error says so."
 )
@@ -101,7 +102,7 @@ def of_tool(command: Command, does: str, version: str) -> str:
 
 def common() -> Iterator[str]:
     """Yields the options that every command of a tool has."""
-    yield item("-h", "Show a short help of at most 20 lines.")
+    yield item("-h", "Show a short help of at most 24 lines.")
     yield item("--help", "Show all help.")
     yield item("--version", "Print the version.")
     yield item("--traceback", "If the tool has a fault, show where.")

@@ -15,7 +15,7 @@ HEAD = """\
 For everyone who looks up a command, an option, its unit or its default, or an exit status. This page is made by
 `tools/reference --write` from the program's help text and from the argument parsers of the tools; a test compares it.
 
-- `-h` shows a short help of at most 20 lines, `--help` shows all: of `./arterial`, of each of its commands, and of each
+- `-h` shows a short help of at most 24 lines, `--help` shows all: of `./arterial`, of each of its commands, and of each
   command of a tool. `--version` prints the version.
 - Every tool accepts `--traceback`: if the tool has a fault, Python's report of it is shown.
 - `-` in place of a file is standard input. A tick is 0.1 s. Options can't be shortened.
@@ -25,8 +25,8 @@ For everyone who looks up a command, an option, its unit or its default, or an e
 PROGRAM = """\
 [GUARANTEES.md](GUARANTEES.md) says what is proved of these commands, and [TESTING.md](TESTING.md) what is only tested.
 Options are given in the order shown; numbers are decimal digits without a sign and without a leading zero. The
-launcher `./arterial` also accepts the name of a file in place of `< FILE` after `run`, `check`, `overlaps`, `band` and
-`respond`.
+launcher `./arterial` also accepts the name of a file in place of `< FILE` after `run`, `check`, `overlaps`, `judge`,
+`band` and `respond`.
 """
 
 

@@ -1,4 +1,4 @@
-use Rattle.std.proofs.Common.{ℕ, [], ◌∷◌, ◌++◌}
+use Rattle.std.proofs.Common.{[], ◌∷◌, ◌++◌}
 use Rattle.arterial.proofs.Printing.{prints-first, prints-then}
 use Rattle.arterial.proofs.reporting.print_named.Goals as goal
 

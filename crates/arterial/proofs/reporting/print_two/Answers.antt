@@ -1,4 +1,4 @@
-use Rattle.std.proofs.Common.{ℕ, [], ◌∷◌, ◌++◌, decimal}
+use Rattle.std.proofs.Common.{[], ◌∷◌, ◌++◌, decimal}
 use Rattle.arterial.specs.Report.{number_then}
 use Rattle.arterial.proofs.Printing.{prints-first, prints-then}
 use Rattle.arterial.proofs.reporting.print_two.Goals as goal

@@ -9,7 +9,13 @@ returns-in-NotATrace g c =
     let fault = c.in-NotATrace.fault in
     subst (λ (status : Status). Prints g.K.Sink.written g.K.Sink.faults c.print_two.result c.args.sink.now c.print_two.new.sink (report_line status)) (sym c.in-NotATrace.is)
     (subst (λ (n : ℕ). Prints g.K.Sink.written g.K.Sink.faults c.print_two.result c.args.sink.now c.print_two.new.sink
-    (number_then (codes "trace: line ") fault.line (number_then (codes " breaks rule ") n (10 ∷ [])))) c.from.ensures c.print_two.ensures)
+    (number_then (codes "trace: line ") fault.line (number_then (codes " breaks rule ") n (10 ∷ [])))) c.from-in-NotATrace.ensures
+    (subst (λ (n : ℕ). Prints g.K.Sink.written g.K.Sink.faults c.print_two.result c.args.sink.now c.print_two.new.sink
+    (number_then (codes "trace: line ") n (number_then (codes " breaks rule ") c.from-in-NotATrace.result (10 ∷ [])))) c.from.ensures c.print_two.ensures))
+
+pub returns-in-NotALog : goal.returns-in-NotALog
+returns-in-NotALog g c =
+    subst (λ (status : Status). Prints g.K.Sink.written g.K.Sink.faults c.print_fault.result c.args.sink.now c.print_fault.new.sink (report_line status)) (sym c.in-NotALog.is) c.print_fault.ensures
 
 pub returns-in-Overlap : goal.returns-in-Overlap
 returns-in-Overlap g c =
