@@ -14,10 +14,10 @@ from ..shared.progress import bar
 from ..shared.saying import say
 from ..shared.status import Status
 from ..shared.tables import Tables
-from . import check, days, explain, jsontext, names, sources, taking, toml_text, writing
+from . import check, days, explain, jsontext, names, rules, sources, taking, toml_text, warnings, writing
 from ..shared.cells import cells_between, tables_of
 from .event_times import Timed
-from .findings import Level, counted
+from .findings import Finding, Level, counted, in_order
 from .reading import Street, street_of
 from .sources import Source
 from .taking import Refused
@@ -122,6 +122,8 @@ def do_check(words: argparse.Namespace) -> int:
         print(f"{words.file}: {counted(found)}")
     if words.fix and source.street is not None and not source.errors:
         do_fix(words, source, source.street)
+        for it in after_fix(source.street):
+            print(f"the corrected plan: {it}")
     return Status.REFUSED if any(it.level is Level.ERROR for it in found) else Status.DONE
 
 
@@ -140,6 +142,13 @@ def do_fix(words: argparse.Namespace, source: Source, street: Street) -> None:
         cabinet["cells"] = cells_between(Tables(cabinet.get("base", "std8")), tables)
     if words.output and not put_kept(words.output, source, street, changes):
         put_fixed(words.output, street)
+
+
+def after_fix(street: Street) -> list[Finding]:
+    """Returns the warnings that the tables of a corrected street still have."""
+    tables = [tables_of(it) for it in street.scenario["cabinets"]]
+    sound = [not rules.broken(it) for it in tables]
+    return [it for it in in_order([*warnings.all_of(street, tables, sound)]) if it.level is Level.WARNING]
 
 
 def put_kept(path: str, source: Source, street: Street, changes: list) -> bool:
