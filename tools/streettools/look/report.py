@@ -245,10 +245,8 @@ def seconds(ticks):
     return None if ticks is None else ticks / 10
 
 
-def has_traffic(scenario, tallies):
-    """Tells whether a run has traffic: a detector or a push button is called, or phases have maximum recall instead."""
-    if any("veh" in it or "ped" in it for it in scenario.get("inputs", ())):
-        return True
+def has_recall(tallies):
+    """Tells whether a phase of a cabinet has maximum recall, by its options or by the split of a pattern."""
     return any(
         it.cabinet.recalled(phase, mode)
         for it in tallies
@@ -257,11 +255,18 @@ def has_traffic(scenario, tallies):
     )
 
 
+def is_call(happening):
+    """Tells whether a vehicle reaches a detector, or a pedestrian presses a push button."""
+    return isinstance(happening, Input) and happening.kind in ("veh", "ped") and happening.on
+
+
 def collect(reader, names):
-    """Reads the trace and returns its report as one value."""
+    """Reads the trace and returns its report as one value. A run has traffic if a detector or a push button is called,
+    or if phases have maximum recall instead."""
     tallies = [Tally(reader.scenario, number, names) for number in range(1, reader.cabinets + 1)]
-    comes = has_traffic(reader.scenario, tallies)
+    comes = has_recall(tallies)
     for happening in reader.happenings(ends=False):
+        comes = comes or is_call(happening)
         tallies[happening.cabinet - 1].take(happening)
     ticks = reader.rounds * reader.ticks
     head = {"title": names.title()} if names.is_given else {}

@@ -184,3 +184,30 @@ def test_a_run_without_traffic_says_so_and_names_two_ways_to_get_some(look, cabi
     opening = "F 1 0 RRRRRRRRRRRRRRRR DDDDDDDDDDDDDDDD S 0 0 0"
     said = look("report", given="".join(f"{it}\n" for it in (first, opening, "R 1", "J 1 4*10", "Z 1")))
     assert ("no traffic: " in said and "aximum recall" in said and "`arterial cosim queues`" in said) is has_line
+
+
+TRAFFIC = ["detectors", "push-button", "street", "bus", "railroad", "two-cabinets"]
+
+
+@pytest.mark.parametrize("name", TRAFFIC)
+def test_a_run_whose_scenario_has_vehicles_or_pedestrians_has_traffic(look, name):
+    """Each of these scenarios has such an input; the rounds up to the last of them are enough."""
+    scenario = json.loads((TOP / f"scenarios/{name}.json").read_text())
+    last = max(it["round"] for it in scenario["inputs"] if "veh" in it or "ped" in it)
+    scenario = {"rounds": last, "ticks": scenario["ticks"], "version": 1} | {
+        name: scenario[name] for name in ("cabinets", "inputs") if name in scenario
+    }
+    scenario["inputs"] = [it for it in scenario["inputs"] if it["round"] <= last]
+    sys.path.append(str(TOP))
+    from model.commands import answer
+
+    assert "no traffic: " not in look("report", given=answer(["run"], json.dumps(scenario).encode()).output.decode())
+
+
+def test_only_detectors_and_push_buttons_are_traffic(look):
+    """A train, and a vehicle that leaves a detector, call no phase."""
+    inputs = '[{"cabinet":1,"on":true,"preempt":1,"round":1},{"cabinet":1,"on":false,"round":1,"veh":4}]'
+    first = f'S {{"cabinets":[{{}}],"inputs":{inputs},"rounds":1,"ticks":10,"version":1}}'
+    opening = "F 1 0 RRRRRRRRRRRRRRRR DDDDDDDDDDDDDDDD S 0 0 0"
+    said = look("report", given="".join(f"{it}\n" for it in (first, opening, "R 1", "J 1 0*2 4*10", "Z 1")))
+    assert "no traffic: " in said
