@@ -211,3 +211,35 @@ def test_only_detectors_and_push_buttons_are_traffic(look):
     opening = "F 1 0 RRRRRRRRRRRRRRRR DDDDDDDDDDDDDDDD S 0 0 0"
     said = look("report", given="".join(f"{it}\n" for it in (first, opening, "R 1", "J 1 0*2 4*10", "Z 1")))
     assert "no traffic: " in said
+
+
+def bus():
+    """Returns a trace of the first cabinet of scenarios/bus.json, by the model."""
+    sys.path.append(str(TOP))
+    from model.commands import answer
+
+    return answer(["run"], (TOP / "scenarios/bus.json").read_bytes()).output.decode()
+
+
+def test_requests_tell_how_long_they_held_a_green_or_that_they_did_nothing(look):
+    """Pattern 1, counter = tick - 60 or - 960 .., force point of 2 and 6 at counter 245. Request 1 is given after tick
+    480: phases 4 and 8 end at tick 481; 8 has had its gap. Request 2 departs at tick 1241, with counter 281: 36 ticks
+    past the force point. Request 3 departs before the force point, while phase 6 is green. Phase 4 isn't coordinated.
+    The last request is cancelled before tick 2121, with counter 261: 16 ticks past it."""
+    text = bus()
+    rows = reported(look, given=text)["cabinets"][0]["requests"]
+    assert [(it["number"], it["phase"], it["held"], it["ended"]) for it in rows] == [
+        (1, 2, 0.0, [4]), (2, 2, 3.6, []), (3, 6, 0.0, []), (4, 4, 0.0, []), (1, 6, 1.6, []),
+    ]  # fmt: skip
+    said = look("report", given=text)
+    assert "request 1, phase 2: ended the green of phase 4\n" in said
+    assert "request 2, phase 2: held the green 3.6 s\n" in said
+    assert "request 3, phase 6: had no effect: it was green already\n" in said
+    assert "request 4, phase 4: had no effect\n" in said
+
+
+def test_rings_have_a_bar_for_each_request(drawn):
+    """From 90 to 120 s requests 2, 3 and 4 are live at some time; request 1 is gone."""
+    found = drawn("rings", "--cabinet", 1, "--from", 90, "--to", 120, given=bus())
+    assert [found.groups[f"request-{it}"] for it in ("2-2", "3-6", "4-4", "1-2")] == [1, 1, 1, 0]
+    assert found.texts["request 2, phase 2"] == 1
