@@ -48,7 +48,7 @@ class Change:
             f"pattern {self.pattern} (split {self.split}) keeps the rules with "
             + ", ".join(parts)
             + f": {total} s of change, the smallest that is enough"
-            + (f" and leaves room for {many(self.roomy)} after a lagging phase" if self.roomy else "")
+            + (f" and leaves phases {many(self.roomy)} room after a lagging phase" if self.roomy else "")
         )
 
 

@@ -11,7 +11,8 @@ RULES = {
     Kind.DISABLED: "words-and-counts", Kind.START_UP: "mode", Kind.FLASH: "mode", Kind.ENDING: "mode",
     Kind.SEEK: "certain-phases", Kind.PREEMPT: "preempts", Kind.OMITTED: "demand", Kind.UNCALLED: "demand",
     Kind.REST: "window", Kind.ROOM: "room", Kind.MINIMUM: "served", Kind.WALK: "served", Kind.FLASHING: "served",
-    Kind.EXTENDED: "gap", Kind.HELD: "reason", Kind.REQUEST: "reason", Kind.CLEARANCE: "intervals", Kind.TURN: "what-begins",
+    Kind.EXTENDED: "gap", Kind.HELD: "reason", Kind.REQUEST: "reason", Kind.CLEARANCE: "intervals",
+    Kind.TURN: "what-begins",
     Kind.REVERT: "can-begin", Kind.NOTHING_NEXT: "next-phase", Kind.BEGINS: "what-begins",
     Kind.ENDS: "what-ends", Kind.UNKNOWN: "order",
 }  # fmt: skip
@@ -111,9 +112,9 @@ class Sentences:
             Kind.FLASHING: f"{who} has its pedestrian clearance (flashing don't walk)",
             Kind.EXTENDED: f"{who} is green: there was no gap yet, and {end}",
             Kind.HELD: f"{who} is coordinated and keeps its green until its force point",
-            Kind.REQUEST: f"{AT_BARRIER if it.across else ''}priority request {it.number} holds {self.phases(it.phases)} "
-            f"past {'its' if len(it.phases) == 1 else 'their'} force point, at most {it.ticks / 10:g} s "
-            "(extension limit)",
+            Kind.REQUEST: f"{AT_BARRIER if it.across else ''}priority request {it.number} holds "
+            f"{self.phases(it.phases)} past {'its' if len(it.phases) == 1 else 'their'} force point, at most "
+            f"{it.ticks / 10:g} s (extension limit)",
             Kind.CLEARANCE: f"{who} is in its clearance (yellow change, red clearance)",
             Kind.TURN: f"{who} {'come' if len(it.phases) > 1 else 'comes'} first in the sequence",
             Kind.REST: f"coordination: {who} rest until the window ends, {it.ticks / 10:g} s from here by the "

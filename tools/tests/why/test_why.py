@@ -30,12 +30,14 @@ OMITTED = FORCE.replace('"clock":840}', '"clock":840,"cells":[["split",1,3,4,7]]
 """The same with phase 3 omitted by the split."""
 
 HELD = FORCE.replace('"clock":840}', '"clock":840,"cells":[["unit",6,40]]}').replace(
-    "}]}", '}],"priority":[{"round":210,"cabinet":1,"number":7,"class":1,"level":1,"phase":2,"arrival":50,"departure":300}]}'
+    "}]}", '}],"priority":[{"round":210,"cabinet":1,"number":7,"class":1,"level":1,"phase":2,"arrival":50,'
+    '"departure":300}]}',
 )
 """The same with a priority request for phase 2 before its force point, and an extension limit of 4 s."""
 
 EARLY = FORCE.replace(
-    "}]}", '}],"priority":[{"round":462,"cabinet":1,"number":7,"class":1,"level":1,"phase":6,"arrival":50,"departure":300}]}'
+    "}]}", '}],"priority":[{"round":462,"cabinet":1,"number":7,"class":1,"level":1,"phase":6,"arrival":50,'
+    '"departure":300}]}',
 )
 """The same with a request for phase 6 while phases 3 and 8 are green since tick 360."""
 
