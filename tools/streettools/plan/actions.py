@@ -55,7 +55,7 @@ def write_sheet(path: str | None, sheet: dict[str, Any]) -> None:
 
 def to_new(words: argparse.Namespace) -> int:
     """Writes a sheet to start from, and its volumes."""
-    from . import starting, volumes_text  # here, since numpy takes a while
+    from . import starting, starting_volumes, volumes_text  # here, since numpy takes a while
 
     asked = starting.wish(
         words.intersections, words.title, words.travel, words.cycle, words.speed, words.start, words.minutes
@@ -63,7 +63,7 @@ def to_new(words: argparse.Namespace) -> int:
     text, street = starting.sheet(asked)
     tell(street.notes)
     if words.volumes:
-        write(words.volumes, volumes_text.text(starting.volumes(asked)))
+        write(words.volumes, volumes_text.text(starting_volumes.volumes(asked)))
     write(words.output, text)
     return Status.DONE
 
