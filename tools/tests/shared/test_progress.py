@@ -48,10 +48,13 @@ def test_a_file_or_a_pipe_gets_no_bar(monkeypatch):
 
 COMPARISON = """
 volumes = "{top}/scenarios/street.volumes.toml"
-seeds = 2
+seeds = 1
 seconds = 60
 [[plan]]
 name = "one"
+scenario = "{top}/scenarios/street.json"
+[[plan]]
+name = "two"
 scenario = "{top}/scenarios/street.json"
 """
 
