@@ -66,7 +66,7 @@ class Requests:
     def active(self, tick: int, pair: tuple[int, int]) -> Request | None:
         """Returns the request that is active at a tick, in a pattern with these coordinated phases."""
         live = [it for it in self.recent if it.is_live(tick) and it.phase in pair]
-        return min(live, key=lambda it: it.rank, default=None)
+        return min(live, key=lambda it: it.rank) if live else None
 
     def shown(self, frame: Frame) -> None:
         """Takes a frame that the cabinet hasn't taken yet."""

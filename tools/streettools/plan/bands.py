@@ -2,6 +2,7 @@
 way to the next intersection takes."""
 
 import json
+import pathlib
 from collections.abc import Callable, Iterator
 
 from ..shared.progress import counted
@@ -81,7 +82,7 @@ def findings(street: Street, path: str | None) -> Iterator[Finding]:
 
 
 def of_questions(
-    street: Street, program: str, asked: list[Question], progress: Callable[[int], object]
+    street: Street, program: pathlib.Path, asked: list[Question], progress: Callable[[int], object]
 ) -> Iterator[Finding]:
     """Yields what the program answers to questions for bands."""
     scenario = {name: street.scenario[name] for name in ("version", "rounds", "ticks", "cabinets")}
