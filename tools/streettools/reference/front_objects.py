@@ -219,7 +219,7 @@ COORD: dict[Arcs, Named] = {
     ASC + (4, 5): most("maxPatterns", "patterns", 48),
     ASC + (4, 8): most("maxSplits", "splits", 32),
     ASC + (4, 11): asc(
-        "localFreeStatus", "INTEGER { other(1), notFree(2), commandFree(3), transitionFree(4) }",
+        "localFreeStatus", "INTEGER { other(1), notFree(2), commandFree(3), transitionFree(4), badPlan(7) }",
         "Whether and why the cabinet is in free operation.",
     ),
     ASC + (4, 12): asc(

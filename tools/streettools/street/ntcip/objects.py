@@ -72,8 +72,10 @@ async def short_alarms(front: Front) -> Field:
 
 
 async def free_status(front: Front) -> Field:
-    """Returns notFree (2), commandFree (3), transitionFree (4) or other (1)."""
+    """Returns notFree (2), commandFree (3), transitionFree (4), badPlan (7) or other (1)."""
     mode, command = await front.side.numbers(MODE, CONTROL)
+    if command == 254 and front.is_undefined:
+        return whole(7)
     if mode == COORD:
         return whole(2)
     if mode == SEEK:
