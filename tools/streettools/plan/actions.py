@@ -17,7 +17,7 @@ from ..shared.tables import Tables
 from . import check, days, explain, jsontext, names, rules, sources, taking, toml_text, warnings, writing
 from ..shared.cells import cells_between, tables_of
 from .event_times import Timed
-from .findings import Finding, Level, counted, in_order
+from .findings import Finding, Level, Rank, counted, in_order
 from .reading import Street, street_of
 from .sources import Source
 from .taking import Refused
@@ -61,7 +61,7 @@ def to_new(words: argparse.Namespace) -> int:
         words.intersections, words.title, words.travel, words.cycle, words.speed, words.start, words.minutes
     )
     text, street = starting.sheet(asked)
-    tell(street.notes)
+    tell(street.notes + [str(it) for it in after_fix(street) if it.rank is not Rank.LOOK])
     if words.volumes:
         write(words.volumes, volumes_text.text(starting_volumes.volumes(asked)))
     write(words.output, text)

@@ -116,6 +116,17 @@ def test_a_new_lead_lag_intersection_serves_its_side_streets(tmp_path, capsys):
     sheet = tmp_path / "new.toml"
     assert command.main(["new", "Main & 1st=leadlag", "Main & 2nd", "--cycle", "110,120", "-o", str(sheet)]) == 0
     assert warned(reading.street_of(toml_text.read(sheet.read_text()))) == []
+    assert "skipped" not in capsys.readouterr().err
+
+
+@pytest.mark.parametrize(("cycle", "is_short"), [(94, True), (95, False)])
+def test_a_new_lead_lag_intersection_without_that_room_is_reported(cycle, is_short, tmp_path, capsys):
+    """The main street needs 10 s for phase 1, 24 s of green and 5.4 s of clearance, 40 s in whole seconds for phase 6,
+    and 11 s for phase 5: 51 s. Phase 3 needs 5 + 4.5 s, and 4.5 + 5.4 s less a tick: 20 s; phase 4 needs 7 + 12 + 4.7
+    s: 24 s. These are 95 s."""
+    sheet = tmp_path / "new.toml"
+    assert command.main(["new", "Main & 1st=leadlag", "--cycle", str(cycle), "-o", str(sheet)]) == 0
+    assert ("may be skipped when the lagging phase 5 is forced off" in capsys.readouterr().err) is is_short
 
 
 @pytest.mark.parametrize(
