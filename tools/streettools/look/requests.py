@@ -7,6 +7,7 @@ from dataclasses import dataclass, field
 
 from streettools.shared.answers import Cancelled, Order, Requested
 from streettools.shared.cabinet import Cabinet, changes, mode_of
+from streettools.shared.tables import ALL
 from streettools.shared.trace_records import Frame
 
 EXTENSION_LIMIT = 6
@@ -58,8 +59,9 @@ class Requests:
                 it.last = min(it.last, tick)
         if isinstance(order, Requested):
             rank = (order.klass, order.level, tick + order.arrival, order.number)
-            new = Request(order.number, order.phase, rank, tick, tick + order.departure)
-            new.was_green = self.cabinet.frame is not None and self.cabinet.frame.vehicles[order.phase - 1] == "G"
+            frame = self.cabinet.frame
+            green = () if frame is None else (phase for phase, it in zip(ALL, frame.vehicles) if it == "G")
+            new = Request(order.number, order.phase, rank, tick, tick + order.departure, was_green=order.phase in green)
             self.all.append(new)
             self.recent.append(new)
 

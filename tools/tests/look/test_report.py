@@ -5,8 +5,10 @@ import sys
 from collections import Counter
 
 import pytest
-from streettools.shared.answers import refused
+from streettools.look import requests
+from streettools.shared.answers import Requested, refused
 from streettools.shared.cabinet import Cabinet, Cycle
+from streettools.shared.trace_records import Frame
 
 from .conftest import SMALL, STREET, TOP, VECTORS, run
 
@@ -243,3 +245,14 @@ def test_rings_have_a_bar_for_each_request(drawn):
     found = drawn("rings", "--cabinet", 1, "--from", 90, "--to", 120, given=bus())
     assert [found.groups[f"request-{it}"] for it in ("2-2", "3-6", "4-4", "1-2")] == [1, 1, 1, 0]
     assert found.texts["request 2, phase 2"] == 1
+
+
+@pytest.mark.parametrize("phase", [0, 17, 255])
+def test_a_request_for_a_phase_that_there_is_none_of_has_no_effect(phase):
+    """A trace that wasn't checked may have a reply with any octets."""
+    cabinet = Cabinet({"cabinets": [{}]}, 1)
+    cabinet.shown(Frame(1, 60, "G" * 16, "D" * 16, "F", 0, 0, 0))
+    asked = requests.Requests(cabinet)
+    asked.ordered(Requested(1, 100, 50, phase, 1, 1), 60)
+    asked.shown(Frame(1, 90, "Y" * 16, "D" * 16, "F", 0, 0, 0))
+    assert [it.effect() for it in asked.all] == ["had no effect"]
