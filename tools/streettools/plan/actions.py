@@ -122,14 +122,12 @@ def do_check(words: argparse.Namespace) -> int:
         print(f"{words.file}: {counted(found)}")
     if words.fix and source.street is not None and not source.errors:
         do_fix(words, source, source.street)
-        for it in after_fix(source.street):
-            print(f"the corrected plan: {it}")
     return Status.REFUSED if any(it.level is Level.ERROR for it in found) else Status.DONE
 
 
 def do_fix(words: argparse.Namespace, source: Source, street: Street) -> None:
-    """Proposes the least change of splits for each pattern that breaks rule 17, 18 or 19; writes the street with it if
-    an output is named."""
+    """Proposes the least change of splits for each pattern that breaks rule 17, 18 or 19, or of which a phase may be
+    skipped; prints the warnings that are left; writes the street with the changes if an output is named."""
     from . import fix  # here, since numpy takes a while
 
     changes: list[tuple[int, fix.Change]] = []
@@ -140,6 +138,8 @@ def do_fix(words: argparse.Namespace, source: Source, street: Street) -> None:
             print(f"{street.names.called(number)}: fix: {line}")
         changes += [(number, it) for it in made]
         cabinet["cells"] = cells_between(Tables(cabinet.get("base", "std8")), tables)
+    for it in after_fix(street) if changes else ():
+        print(f"the corrected plan: {it}")
     if words.output and not put_kept(words.output, source, street, changes):
         put_fixed(words.output, street)
 

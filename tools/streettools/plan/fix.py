@@ -268,18 +268,16 @@ def apply(tables: Tables, change: Change) -> None:
         put(tables, ("split", change.split, phase, 3), time)
 
 
-def mend(tables: Tables, known: Intersection, made: list[Change], with_rooms: bool = False) -> Iterator[str]:
-    """Puts the least changes into tables that break rule 17, 18 or 19, adds them to `made`, and yields them in words;
-    or why there are none. `with_rooms` also changes patterns of which a phase may be skipped after a lagging phase."""
+def mend(tables: Tables, known: Intersection, made: list[Change]) -> Iterator[str]:
+    """Puts the least changes into tables of patterns that break rule 17, 18 or 19, or of which a phase may be skipped
+    after a lagging phase; adds the changes to `made`, and yields them in words, or why there are none."""
     broken = rules.broken(tables)
     first = next((it.rule for it in broken if it.rule in FIRST), None)
     refused = {it.row for it in broken if it.rule in SPLIT_RULES}
-    patterns = set(refused)
-    if first is not None and (patterns or tables.patterns()):
+    if first is not None and (refused or tables.patterns()):
         yield f"mend rule {first} first: the splits depend on it"
         return
-    if with_rooms:
-        patterns |= {it for it in tables.patterns() if lagging.is_short(Layout(tables, it), known.partners)}
+    patterns = refused | {it for it in tables.patterns() if lagging.is_short(Layout(tables, it), known.partners)}
     for pattern in sorted(patterns):
         try:
             change = least_change(tables, pattern, known)

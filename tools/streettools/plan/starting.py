@@ -185,7 +185,7 @@ def mended(text: str) -> tuple[str, Street]:
     changes: list[tuple[int, fix.Change]] = []
     for number, cabinet in enumerate(street.scenario["cabinets"], 1):
         tables, known, made = tables_of(cabinet), street.names.intersection(number), list[fix.Change]()
-        lines = list(fix.mend(tables, known, made, with_rooms=True))
+        lines = list(fix.mend(tables, known, made))
         if len(made) < len(lines):
             raise Refused(f"{street.names.called(number)}: {lines[len(made)]}")
         changes += [(number, it) for it in made]

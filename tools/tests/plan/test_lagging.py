@@ -111,6 +111,15 @@ def test_check_fix_prints_the_warnings_that_its_own_sheet_has(tmp_path, capsys):
     assert "the corrected plan: Grant: warning (probably a mistake): pattern 1: phase 3 and phase 7 may be" in said
 
 
+def test_check_fix_gives_an_accepted_plan_the_room_that_it_lacks(tmp_path, capsys):
+    """13 s are accepted, and 20 s leave room. The cycle of 110 s has more than that to spare."""
+    sheet, mended = tmp_path / "accepted.toml", tmp_path / "mended.toml"
+    sheet.write_text(LEFTS.format(left=13, recall="minimum", through=52))
+    assert command.main(["check", "--fix", str(sheet), "-o", str(mended)]) == 0
+    assert "leaves phases 3 and 7 room after a lagging phase" in capsys.readouterr().out
+    assert warned(reading.street_of(toml_text.read(mended.read_text()))) == []
+
+
 def test_a_new_lead_lag_intersection_serves_its_side_streets(tmp_path, capsys):
     """The sheet that `plan new` writes has no phase that may be skipped."""
     sheet = tmp_path / "new.toml"
