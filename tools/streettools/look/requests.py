@@ -57,6 +57,7 @@ class Requests:
         for it in self.recent:
             if it.number == order.number:
                 it.last = min(it.last, tick)
+        self.recent = [it for it in self.recent if it.last > it.since]
         if isinstance(order, Requested):
             rank = (order.klass, order.level, tick + order.arrival, order.number)
             frame = self.cabinet.frame

@@ -256,3 +256,11 @@ def test_a_request_for_a_phase_that_there_is_none_of_has_no_effect(phase):
     asked.ordered(Requested(1, 100, 50, phase, 1, 1), 60)
     asked.shown(Frame(1, 90, "Y" * 16, "D" * 16, "F", 0, 0, 0))
     assert [it.effect() for it in asked.all] == ["had no effect"]
+
+
+def test_requests_that_replace_each_other_take_little_time():
+    """Ten thousand in one reply: only those that may be live are kept at hand."""
+    asked = requests.Requests(Cabinet({"cabinets": [{}]}, 1))
+    for number in range(10_000):
+        asked.ordered(Requested(number % 256, 100, 50, 2, 1, 1), 60)
+    assert len(asked.all) == 10_000 and len(asked.recent) == 256
