@@ -254,8 +254,8 @@ class StreetEnv(spaces.Env):
         return self._trace
 
     def movements(self) -> "pandas.DataFrame":
-        """Returns what was measured in the episode that ended last, a row for each movement, as `arterial cosim queues`
-        reports it (docs/QUEUES.md).
+        """Returns the measures of the last finished episode, one row for each movement, with the columns of `cosim
+        queues` (docs/QUEUES.md).
 
         Columns: `cabinet`, `movement`, `phase`, `vehicles` (that passed), `delay_s` (mean) and `delay_95_s` (95 %),
         `level` (of service), `stops` (mean), `on_green`, `green` and `platoon_ratio`, `queue_mean`, `queue_greatest`

@@ -11,7 +11,7 @@ from typing import Any
 from ..shared.commandline import Parser, add_json, add_output, add_program, number
 from ..shared.fault import Fault
 from ..shared.given import Given, read_toml
-from ..shared.progress import bar
+from ..shared.progress import counted
 from ..shared.saying import say, say_replaced
 from ..shared.status import Status
 from . import comparing, comparing_queues, verdicts
@@ -151,19 +151,16 @@ def with_walks(comparison: comparing.Comparison) -> comparing.Comparison:
 
 def ran(kind: ModuleType, terms: Terms, plans: Sequence[Named], jobs: list[Any], words: argparse.Namespace) -> Grown:
     """Does all runs, with as many seeds as the terms want."""
-    progress = bar(0, "run")
+    with counted(0, "run") as progress:
 
-    def do(some: list[Any]) -> list[Result]:
-        if progress is None:
-            return do_all(some, kind.do, kind.pool_of(words.workers), lambda count: None)
-        progress.total += len(some)
-        return do_all(some, kind.do, kind.pool_of(words.workers), progress.update)
+        def do(some: list[Any]) -> list[Result]:
+            if progress is None:
+                return do_all(some, kind.do, kind.pool_of(words.workers), lambda count: None)
+            progress.total += len(some)
+            progress.refresh()
+            return do_all(some, kind.do, kind.pool_of(words.workers), progress.update)
 
-    try:
         return grown(terms, plans, jobs, 1 if words.keep else max(1, words.workers // len(plans)), do)
-    finally:
-        if progress is not None:
-            progress.close()
 
 
 def without_later_folders(terms: Terms, plans: Sequence[Named], jobs: list[Any]) -> None:

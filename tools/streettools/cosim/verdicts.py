@@ -32,18 +32,17 @@ def sentences(terms: Terms, rows: Iterable[Row]) -> Iterator[str]:
         if it.more_delay is None:
             continue
         value, half, said = it.more_delay.value, it.more_delay.half or 0.0, verdict(it.more_delay)
-        pair = f"{it.plan} against {terms.against}"
-        size = f"{abs(value):.1f} s {'less' if value < 0 else 'more'} delay a vehicle"
+        size = f"{abs(value):.1f} s {'less' if value < 0 else 'more'} delay a vehicle than '{terms.against}'"
         low, high = sorted((abs(value) - half, abs(value) + half))
         if said == UNKNOWN:
-            yield f"{pair}: {size} with one seed, which can't tell whether the difference is real: give more seeds"
+            only = "with one seed, which can't tell whether the difference is real: give more seeds"
+            yield f"'{it.plan}' has {size} {only}"
         elif said == SAME:
-            yield (
-                f"{pair}: no real difference in delay ({value - half:+.1f} to {value + half:+.1f} s at 95 % over "
-                f"{len(terms.seeds)} seeds)" + ("" if not half else "; more seeds narrow the interval")
-            )
+            between = f"{value - half:+.1f} to {value + half:+.1f} s at 95 % over {len(terms.seeds)} seeds"
+            more = "; more seeds narrow the interval" if half else ""
+            yield f"'{it.plan}' has no real difference in delay from '{terms.against}' ({between}){more}"
         else:
-            yield f"{pair}: {size} ({low:.1f} to {high:.1f} s at 95 % over {len(terms.seeds)} seeds)"
+            yield f"'{it.plan}' has {size} ({low:.1f} to {high:.1f} s at 95 % over {len(terms.seeds)} seeds)"
 
 
 def of_width(terms: Terms, reached: float | None) -> Iterator[str]:

@@ -74,7 +74,7 @@ class Log:
     def ordered(self, order, tick):
         """Keeps a priority request that checks in, or out if it is cancelled."""
         match order:
-            case Requested(number, departure):
+            case Requested(number=number, departure=departure):
                 self.departed(number, tick)
                 self.requests[number] = tick + departure
                 self.add(tick, PRIORITY_CHECK_IN, number)

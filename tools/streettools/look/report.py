@@ -14,6 +14,7 @@ from streettools.shared.tables import ALL
 from streettools.shared.trace_records import Answered, Ended, Frame, Input, Noted
 
 from .endings import ENDINGS
+from .requests import Requests
 
 WAYS = {1: "polls", 2: "downloads", 3: "priority"}
 
@@ -119,7 +120,7 @@ class Tally:
         self.modes, self.mode, self.since = Counter(), None, 0
         self.patterns = {}
         self.replies = {way: Counter() for way in WAYS}
-        self.orders, self.loads = Counter(), []
+        self.orders, self.loads, self.requests = Counter(), [], Requests(self.cabinet)
         self.refused, self.notes = {}, {}
 
     def take(self, happening):
@@ -161,6 +162,7 @@ class Tally:
 
     def ordered(self, order, tick):
         """Counts an order that was taken."""
+        self.requests.ordered(order, tick)
         match order:
             case ClockNamed(ticks):
                 self.orders["clock set"] += self.cabinet.clock.named(ticks, tick)
@@ -172,6 +174,7 @@ class Tally:
     def shown(self, frame):
         """Counts what a frame ends and begins."""
         cabinet, before = self.cabinet, self.cabinet.frame
+        self.requests.shown(frame)
         if before is not None:
             cycle = cabinet.cycle(frame)
             if cycle:
@@ -218,6 +221,7 @@ class Tally:
             "patterns": [it.value(pattern) for pattern, it in sorted(self.patterns.items())],
             "replies": {WAYS.get(way, str(way)): dict(count) for way, count in self.replies.items() if count},
             "orders": {word: count for word, count in self.orders.items() if count},
+            "requests": [request_value(it) for it in self.requests.all],
             "refused_sets": [set_value(it, *times) for it, times in self.refused.items()],
             "downloads": [load_value(tick, load) for tick, load in self.loads],
             "notes": [
@@ -234,6 +238,12 @@ def set_value(refused, times, first, last):
     return row if refused.download is None else row | {"download": refused.download}
 
 
+def request_value(it):
+    """Returns the row of a priority request: when it was given, until when it was live, and what it did."""
+    row = {"number": it.number, "phase": it.phase, "given": seconds(it.since), "gone": seconds(it.last)}
+    return row | {"held": seconds(it.held), "ended": sorted(set(it.cut)), "effect": it.effect()}
+
+
 def load_value(tick, load):
     """Returns the row of a download that ended after a tick: the version that it made, or the rule that it breaks."""
     result = {"rule": load.rule, "row": load.row} if load.version is None else {"version": load.version}
@@ -245,10 +255,8 @@ def seconds(ticks):
     return None if ticks is None else ticks / 10
 
 
-def has_traffic(scenario, tallies):
-    """Tells whether a run has traffic: a detector or a push button is called, or phases have maximum recall instead."""
-    if any("veh" in it or "ped" in it for it in scenario.get("inputs", ())):
-        return True
+def has_recall(tallies):
+    """Tells whether a phase of a cabinet has maximum recall, by its options or by the split of a pattern."""
     return any(
         it.cabinet.recalled(phase, mode)
         for it in tallies
@@ -257,11 +265,18 @@ def has_traffic(scenario, tallies):
     )
 
 
+def is_call(happening):
+    """Tells whether a vehicle reaches a detector, or a pedestrian presses a push button."""
+    return isinstance(happening, Input) and happening.kind in ("veh", "ped") and happening.on
+
+
 def collect(reader, names):
-    """Reads the trace and returns its report as one value."""
+    """Reads the trace and returns its report as one value. A run has traffic if a detector or a push button is called,
+    or if phases have maximum recall instead."""
     tallies = [Tally(reader.scenario, number, names) for number in range(1, reader.cabinets + 1)]
-    comes = has_traffic(reader.scenario, tallies)
+    comes = has_recall(tallies)
     for happening in reader.happenings(ends=False):
+        comes = comes or is_call(happening)
         tallies[happening.cabinet - 1].take(happening)
     ticks = reader.rounds * reader.ticks
     head = {"title": names.title()} if names.is_given else {}

@@ -72,6 +72,8 @@ def message_parts(value):
     said = [f"{way}: {n.get('answered', 0)} answered, {n.get('silent', 0)} silent" for way, n in replies]
     yield "replies to " + "; ".join(said) + "\n" if said else ""
     yield "orders: " + ", ".join(f"{word} {count}" for word, count in orders) + "\n" if orders else ""
+    lines = (f"request {it['number']}, phase {it['phase']}: {it['effect']}\n" for it in value["requests"])
+    yield "".join(lines)
     yield table(list(set_rows(value["refused_sets"])))
     yield table(list(load_rows(value["downloads"])))
 

@@ -5,15 +5,17 @@ from typing import NamedTuple
 from matplotlib.lines import Line2D
 from matplotlib.patches import Patch
 
+from streettools.shared import answers
 from streettools.shared.cabinet import changes, opened
-from streettools.shared.trace_records import Ended, Frame, Input, RoundEnd
+from streettools.shared.trace_records import Answered, Ended, Frame, Input, RoundEnd
 
 from . import pictures, strips
+from .requests import Requests
 
 COLOURS = {"G": pictures.GREEN, "Y": pictures.YELLOW, "C": pictures.CLEARANCE}
 NAMES = {"G": "green", "Y": "yellow", "C": "red-clearance", "W": "walk", "F": "flashing"}
 FLASHING = {"facecolor": pictures.WALK, "edgecolor": pictures.FLASHING, "hatch": "/////", "linewidth": 0}
-ZERO, DOWNLOAD, PREEMPT = "#1864ab", "#862e9c", "#7048e8"
+ZERO, DOWNLOAD, PREEMPT, REQUEST = "#1864ab", "#862e9c", "#7048e8", "#0b7285"
 
 
 class Span(NamedTuple):
@@ -35,7 +37,7 @@ class Seen:
         self.modes = strips.Modes(start, end)
         self.last, self.side = 0, None
         self.spans, self.barriers, self.zeros, self.downloads, self.inputs = [], [], [], [], []
-        self.since, self.calls = {}, {}
+        self.since, self.calls, self.requests = {}, {}, Requests(self.cabinet)
 
     def within(self, tick):
         """Returns whether a tick is looked at."""
@@ -48,6 +50,9 @@ class Seen:
                 self.shown(happening)
             case Input(kind="preempt"):
                 self.called(happening)
+            case Answered(digits=str() as digits):
+                for order in answers.orders(digits):
+                    self.requests.ordered(order, happening.tick)
             case Ended(tick=tick, load=load):
                 self.cabinet.ended(load)
                 text = f"refused by rule {load.rule}" if load.version is None else f"version {load.version}"
@@ -104,9 +109,14 @@ class Seen:
             self.begin(kind, phase, "R", self.end)
         self.modes.close(self.end)
         self.inputs += [(number, since, self.last) for number, since in self.calls.items()]
-        cut = [(number, max(since, self.start), min(end, self.end)) for number, since, end in self.inputs]
-        self.inputs = [it for it in cut if it[1] < it[2]]
+        self.inputs = self.cut(self.inputs)
+        self.asked = self.cut([((it.number, it.phase), it.since, it.last) for it in self.requests.all])
         return self
+
+    def cut(self, spans):
+        """Returns spans (what they are of, first tick, end) within the time that is looked at."""
+        found = [(it, max(since, self.start), min(end, self.end)) for it, since, end in spans]
+        return [it for it in found if it[1] < it[2]]
 
 
 def collect(reader, number, start, end, left_out):
@@ -182,27 +192,30 @@ def legend(drawn, seen):
 
 
 def draw(seen, path, names, began=None):
-    """Draws the ring diagram and writes it; a row for each preempt whose input went on."""
+    """Draws the ring diagram and writes it; a row for each preempt whose input went on, and for each priority
+    request."""
     cabinet = seen.cabinet.number
-    numbers = sorted({number for number, _, _ in seen.inputs})
-    tall = 3.2 + 0.22 * len(numbers) + 0.25 * bool(seen.downloads)
+    numbers, asked = ({it for it, _, _ in spans} for spans in (seen.inputs, seen.asked))
+    rows = [(f"preempt-input-{it}", f"{names.preempt(cabinet, it)} input", seen.inputs, it) for it in sorted(numbers)]
+    rows += [(f"request-{it[0]}-{it[1]}", f"request {it[0]}, phase {it[1]}", seen.asked, it) for it in sorted(asked)]
+    tall = 3.2 + 0.22 * len(rows) + 0.25 * bool(seen.downloads)
     title = f"{names.cabinet(cabinet)}: rings, ticks {seen.start} to {seen.end}"
     shown = {it.phase for it in seen.spans}
-    inputs = [f"{names.preempt(cabinet, number)} input" for number in numbers]
-    drawn, (axes,) = pictures.figure(tall, title, under=names.key(cabinet, shown), labels=inputs)
+    words = [label for _, label, _, _ in rows]
+    drawn, (axes,) = pictures.figure(tall, title, under=names.key(cabinet, shown), labels=words)
     pictures.time_axis(axes, seen.start, seen.end, began)
     draw_ring(axes, seen, 1, 2.0, names)
     draw_ring(axes, seen, 2, 1.0, names)
     strips.draw(axes, seen.modes.spans, 0.45, 0.36)
-    rows = {number: 0.2 - 0.28 * place for place, number in enumerate(numbers)}
-    for number, low in rows.items():
-        shown = [(since, end) for it, since, end in seen.inputs if it == number]
-        pictures.bars(axes, shown, low, 0.16, f"preempt-input-{number}", facecolor=PREEMPT)
+    lows = [0.2 - 0.28 * place for place in range(len(rows))]
+    for low, (group, _, spans, number) in zip(lows, rows):
+        shown = [(since, end) for it, since, end in spans if it == number]
+        pictures.bars(axes, shown, low, 0.16, group, facecolor=PREEMPT if group.startswith("p") else REQUEST)
     top = 3.0
     draw_marks(axes, seen, top)
-    axes.set_ylim(min(rows.values(), default=0.42) - 0.12, top + (0.85 if seen.downloads else 0.3))
+    axes.set_ylim(min(lows, default=0.42) - 0.12, top + (0.85 if seen.downloads else 0.3))
     labels = {2.4: "ring 1", 1.4: "ring 2", 0.63: "mode"}
-    labels |= {low + 0.08: pictures.escaped(text) for low, text in zip(rows.values(), inputs)}
+    labels |= {low + 0.08: pictures.escaped(text) for low, text in zip(lows, words)}
     axes.set_yticks(list(labels), list(labels.values()))
     axes.tick_params(axis="y", length=0)
     axes.spines["left"].set_visible(False)

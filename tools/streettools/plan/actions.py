@@ -14,10 +14,10 @@ from ..shared.progress import bar
 from ..shared.saying import say
 from ..shared.status import Status
 from ..shared.tables import Tables
-from . import check, days, explain, jsontext, names, sources, taking, toml_text, writing
+from . import check, days, explain, jsontext, names, rules, sources, taking, toml_text, warnings, writing
 from ..shared.cells import cells_between, tables_of
 from .event_times import Timed
-from .findings import Level, counted
+from .findings import Finding, Level, Rank, counted, in_order
 from .reading import Street, street_of
 from .sources import Source
 from .taking import Refused
@@ -55,15 +55,15 @@ def write_sheet(path: str | None, sheet: dict[str, Any]) -> None:
 
 def to_new(words: argparse.Namespace) -> int:
     """Writes a sheet to start from, and its volumes."""
-    from . import starting, volumes_text  # here, since numpy takes a while
+    from . import starting, starting_volumes, volumes_text  # here, since numpy takes a while
 
     asked = starting.wish(
         words.intersections, words.title, words.travel, words.cycle, words.speed, words.start, words.minutes
     )
     text, street = starting.sheet(asked)
-    tell(street.notes)
+    tell(street.notes + [str(it) for it in after_fix(street) if it.rank is not Rank.LOOK])
     if words.volumes:
-        write(words.volumes, volumes_text.text(starting.volumes(asked)))
+        write(words.volumes, volumes_text.text(starting_volumes.volumes(asked)))
     write(words.output, text)
     return Status.DONE
 
@@ -126,8 +126,8 @@ def do_check(words: argparse.Namespace) -> int:
 
 
 def do_fix(words: argparse.Namespace, source: Source, street: Street) -> None:
-    """Proposes the least change of splits for each pattern that breaks rule 17, 18 or 19; writes the street with it if
-    an output is named."""
+    """Proposes the least change of splits for each pattern that breaks rule 17, 18 or 19, or of which a phase may be
+    skipped; prints the warnings that are left; writes the street with the changes if an output is named."""
     from . import fix  # here, since numpy takes a while
 
     changes: list[tuple[int, fix.Change]] = []
@@ -138,8 +138,17 @@ def do_fix(words: argparse.Namespace, source: Source, street: Street) -> None:
             print(f"{street.names.called(number)}: fix: {line}")
         changes += [(number, it) for it in made]
         cabinet["cells"] = cells_between(Tables(cabinet.get("base", "std8")), tables)
+    for it in after_fix(street) if changes else ():
+        print(f"the corrected plan: {it}")
     if words.output and not put_kept(words.output, source, street, changes):
         put_fixed(words.output, street)
+
+
+def after_fix(street: Street) -> list[Finding]:
+    """Returns the warnings that the tables of a corrected street still have."""
+    tables = [tables_of(it) for it in street.scenario["cabinets"]]
+    sound = [not rules.broken(it) for it in tables]
+    return [it for it in in_order([*warnings.all_of(street, tables, sound)]) if it.level is Level.WARNING]
 
 
 def put_kept(path: str, source: Source, street: Street, changes: list) -> bool:

@@ -2,8 +2,10 @@
 way to the next intersection takes."""
 
 import json
-from collections.abc import Iterator
+import pathlib
+from collections.abc import Callable, Iterator
 
+from ..shared.progress import counted
 from ..shared.program import NoProgram, answering, ran
 from ..shared.cells import tables_of
 from ..shared.tables import Tables
@@ -13,7 +15,10 @@ from .reading import Street
 SECONDS = 60
 
 
-def questions(street: Street) -> Iterator[tuple[int, int, list[int], list[int]]]:
+Question = tuple[int, int, list[int], list[int]]
+
+
+def questions(street: Street) -> Iterator[Question]:
     """Yields each section and pattern of which a band can be asked: the numbers of the cabinets, and the times from
     each to the next."""
     cabinets = street.scenario["cabinets"]
@@ -72,11 +77,20 @@ def findings(street: Street, path: str | None) -> Iterator[Finding]:
     except NoProgram as why:
         yield Finding(Level.NOTE, "", f"bands are not looked at: {why}")
         return
+    with counted(len(asked), "band") as shown:
+        yield from of_questions(street, program, asked, shown.update if shown else lambda count: None)
+
+
+def of_questions(
+    street: Street, program: pathlib.Path, asked: list[Question], progress: Callable[[int], object]
+) -> Iterator[Finding]:
+    """Yields what the program answers to questions for bands."""
     scenario = {name: street.scenario[name] for name in ("version", "rounds", "ticks", "cabinets")}
     for section, pattern, numbers, travel in asked:
         question = {"scenario": scenario, "section": section, "pattern": pattern, "travel": travel}
         answer = ran(program, "band", given=json.dumps(question).encode(), seconds=SECONDS)
         lines = answer.out.decode().split("\n")
+        progress(1)
         if answer.status == 0 and len(lines) > 1:
             yield from told(street, section, pattern, numbers, lines)
 

@@ -4,9 +4,9 @@ from collections.abc import Iterator
 from dataclasses import replace
 
 from ..shared.tables import Tables
-from . import bands, conflicts, day_findings, rules, warnings
+from . import bands, conflicts, day_findings, rules, schedule_checks, warnings
 from ..shared.cells import tables_of
-from .findings import Finding, Level, in_order, warn
+from .findings import Finding, Level, in_order, note, warn
 from .pattern_sentences import sentences
 from .reading import Street
 from .sources import Source
@@ -68,4 +68,14 @@ def findings(source: Source, program: str | None = None) -> list[Finding]:
             found += warnings.all_of(street, tables, sound)
             found += day_findings.of_days(street, tables)
             found += bands.findings(street, program) if all(sound) else ()
+    elif street is not None:
+        found += beside_values(source, street)
     return in_order(found)
+
+
+def beside_values(source: Source, street: Street) -> Iterator[Finding]:
+    """Yields what can be checked of a sheet that has values which aren't allowed: the times of its schedule, if they
+    are not among these values; and that the rest isn't checked."""
+    if not any(it.where.startswith(("schedule", "day_plan")) for it in source.errors):
+        yield from schedule_checks.of_entries(street)
+    yield note("", "rules and warnings are checked after these values are corrected")

@@ -225,7 +225,8 @@ def add_checks(parts) -> None:
     part.add_argument(
         "--fix",
         action="store_true",
-        help="propose the smallest change of splits for patterns that break rule 17, 18 or 19",
+        help="propose the smallest change of splits for patterns that break rule 17, 18 or 19, or of which a phase may "
+        "be skipped after a lagging phase",
     )
     add_program(part)
     add_output(part, "with --fix: where to write the corrected plan, .json, .toml or .xlsx", metavar="OUTPUT")

@@ -6,6 +6,7 @@ from typing import Any
 from ..shared import clock
 from ..shared.given import Given, Wrong
 from . import readers
+from .names import fitting
 
 
 class Timed:
@@ -41,11 +42,13 @@ class Timed:
         return made
 
     def number(self, name: str) -> int:
-        """Returns the number of the cabinet at an intersection."""
-        fits = [number for number, it in enumerate(self.names, 1) if it.casefold() == name.casefold()]
+        """Returns the number of the cabinet at an intersection, by its name or by a part of the name that no other
+        has."""
+        fits = fitting(self.names, name)
         if len(fits) != 1:
             known = ", ".join(repr(it) for it in self.names if it) or "none has a name"
-            raise Wrong(f"{'several intersections are' if fits else 'no intersection is'} named {name!r}: {known}")
+            found = "several intersections have a name with" if fits else "no intersection is named"
+            raise Wrong(f"{found} {name!r}: {known}")
         return fits[0]
 
     def round(self, of_day: int) -> int:

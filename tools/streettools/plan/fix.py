@@ -1,4 +1,5 @@
-"""The least change of a pattern's splits with which it keeps rules 17, 18 and 19: found exactly, for whole seconds.
+"""The least change of a pattern's splits with which it keeps rules 17, 18 and 19: found exactly, for whole seconds. If
+the cycle is long enough, no phase is then skipped after a lagging phase that is forced off (see `lagging`).
 
 Each side of the barrier is laid out by itself for every length that it may have; then the lengths are chosen that make
 the cycle. Costs are seconds of change, summed over phases. On the coordinated side the later start of the coordinated
@@ -7,16 +8,18 @@ phases, local zero, is tried at every second."""
 from collections.abc import Iterator
 from dataclasses import dataclass
 from functools import cached_property
+from typing import NoReturn
 
 import numpy as np
 
 from ..shared.tables import Tables
-from . import rules
+from . import lagging, rules
 from ..shared.cells import put, value
 from .layout import Layout, least_service
 from .names import Intersection
 from .pattern_rules import has_pair
 from .pattern_sentences import ceiling
+from .sentences import many
 
 LONGEST = 255
 """A split, and a cycle, is 0 to 255 s."""
@@ -34,6 +37,8 @@ class Change:
     split: int
     before: dict[int, int]
     after: dict[int, int]
+    roomy: tuple[int, ...] = ()
+    """The phases that have room after a lagging phase, which the rules don't ask for."""
 
     def words(self, known: Intersection) -> str:
         """Returns the change in words."""
@@ -43,6 +48,7 @@ class Change:
             f"pattern {self.pattern} (split {self.split}) keeps the rules with "
             + ", ".join(parts)
             + f": {total} s of change, the smallest that is enough"
+            + (f" and leaves phases {many(self.roomy)} room after a lagging phase" if self.roomy else "")
         )
 
 
@@ -60,11 +66,20 @@ def chosen(costs: np.ndarray, of_time: np.ndarray, total: int) -> int:
     return int(np.argmin(costs[total::-1] + of_time[: total + 1]))
 
 
+@dataclass(frozen=True)
+class Asked:
+    """What a change must keep in mind: the placeholder phases, which cost nothing, and the ticks that some phases need
+    beyond their minimum service."""
+
+    partners: list[int]
+    rooms: dict[int, int]
+
+
 class Ring:
     """The phases of a ring on a side, in order: what each time of each costs. No time up to `most` is left out."""
 
-    def __init__(self, laid: Layout, phases: list[int], partners: list[int], most: int):
-        self.laid, self.phases, self.partners = laid, phases, partners
+    def __init__(self, laid: Layout, phases: list[int], asked: Asked, most: int):
+        self.laid, self.phases, self.partners, self.rooms = laid, phases, asked.partners, asked.rooms
         self.seconds = np.arange(most + 1)
         self.clearance = laid.side_clearance(phases[0])
         self.at = next((at for at, it in enumerate(phases) if it in laid.coordinated), None)
@@ -76,11 +91,15 @@ class Ring:
         costs[:least] = NEVER
         return costs
 
+    def service(self, phase: int) -> int:
+        """Returns the ticks of green that a phase must have room for."""
+        return least_service(self.laid.tables, phase) + self.rooms.get(phase, 0)
+
     def waited(self, phase: int) -> np.ndarray:
         """Returns the cost of each time of a phase that is neither coordinated nor omitted."""
         if self.laid.is_omitted(phase):
             return self.cost(phase, 0)
-        return self.cost(phase, ceiling(least_service(self.laid.tables, phase) + self.laid.tables.clearance(phase)))
+        return self.cost(phase, ceiling(self.service(phase) + self.laid.tables.clearance(phase)))
 
     def behind(self, phases: list[int]) -> list[np.ndarray]:
         """Returns, for each of some last phases of the side and for none, the least cost of it and of those after it,
@@ -89,7 +108,7 @@ class Ring:
         for phase in reversed(phases):
             costs = added(found[0], self.waited(phase))
             if not self.laid.is_omitted(phase):
-                costs[: ceiling(least_service(self.laid.tables, phase) + self.clearance)] = NEVER
+                costs[: ceiling(self.service(phase) + self.clearance)] = NEVER
             found.insert(0, costs)
         return found
 
@@ -155,8 +174,8 @@ class Ring:
 class Side:
     """A side of the barrier: the least cost for each length, and the times that have it."""
 
-    def __init__(self, laid: Layout, side: frozenset[int], partners: list[int], most: int):
-        self.rings = [Ring(laid, laid.of_side(side, ring), partners, most) for ring in (1, 2)]
+    def __init__(self, laid: Layout, side: frozenset[int], asked: Asked, most: int):
+        self.rings = [Ring(laid, laid.of_side(side, ring), asked, most) for ring in (1, 2)]
         self.hold = max(laid.window_needs().values()) if self.rings[0].at is not None else 0
         self.zeros = np.zeros(most + 1, dtype=int)
         self.costs = self.plain() if self.rings[0].at is None else self.coordinated()
@@ -183,10 +202,10 @@ class Side:
         return {p: t for ring in self.rings for p, t in ring.times(length, int(self.zeros[length]), self.hold).items()}
 
 
-def laid_out(laid: Layout, partners: list[int], most: int) -> tuple[list[Side], list[np.ndarray]]:
+def laid_out(laid: Layout, asked: Asked, most: int) -> tuple[list[Side], list[np.ndarray]]:
     """Returns the sides of a pattern, and the least costs of the first of them, of the first two, and so on, by their
     length in all."""
-    sides = [Side(laid, it, partners, most) for it in laid.sides]
+    sides = [Side(laid, it, asked, most) for it in laid.sides]
     totals = [np.where(np.arange(most + 1) == 0, 0, NEVER)]
     for side in sides:
         totals.append(np.minimum(added(totals[-1], side.costs), NEVER))
@@ -206,26 +225,41 @@ def refuse_shared(laid: Layout) -> None:
 
 
 def least_change(tables: Tables, pattern: int, known: Intersection) -> Change:
-    """Returns the least change of splits with which a pattern keeps rules 17 to 19; raises NoChange if there is
-    none."""
+    """Returns the least change of splits with which a pattern keeps rules 17 to 19, and has room after its lagging
+    phases if the cycle is long enough; raises NoChange if there is none."""
     laid = Layout(tables, pattern)
     if not has_pair(tables, pattern):
         raise NoChange(f"pattern {pattern}: say first which phases it coordinates")
     refuse_shared(laid)
-    length = laid.cycle // 10
-    sides, totals = laid_out(laid, known.partners, length)
+    rooms = lagging.first_needs(laid, known.partners)
+    after = times_for(laid, Asked(known.partners, rooms)) if rooms else None
+    roomy = tuple(sorted(rooms)) if after else ()
+    after = after or times_for(laid, Asked(known.partners, {}))
+    if after is None:
+        refuse_cycle(laid, Asked(known.partners, {}))
+    times = {it: laid.time(it) // 10 for it in after}
+    changed = sorted(it for it in after if after[it] != times[it])
+    return Change(pattern, laid.split, {it: times[it] for it in changed}, {it: after[it] for it in changed}, roomy)
+
+
+def times_for(laid: Layout, asked: Asked) -> dict[int, int] | None:
+    """Returns the splits at the least cost, or None if the cycle is too short for what is asked."""
+    length, after = laid.cycle // 10, dict[int, int]()
+    sides, totals = laid_out(laid, asked, length)
     if totals[-1][length] >= NEVER:
-        enough = np.flatnonzero(laid_out(laid, known.partners, LONGEST)[1][-1] < NEVER)
-        words = f"it needs a cycle of at least {enough[0]} s" if enough.size else "no cycle up to 255 s is long enough"
-        raise NoChange(f"pattern {pattern}: no splits keep the rules in a cycle of {length} s; {words}")
-    after: dict[int, int] = {}
+        return None
     for side, before in zip(reversed(sides), reversed(totals[:-1]), strict=True):
         share = chosen(before, side.costs, length)
         after |= side.times(share)
         length -= share
-    times = {it: laid.time(it) // 10 for it in after}
-    changed = sorted(it for it in after if after[it] != times[it])
-    return Change(pattern, laid.split, {it: times[it] for it in changed}, {it: after[it] for it in changed})
+    return after
+
+
+def refuse_cycle(laid: Layout, asked: Asked) -> NoReturn:
+    """Refuses a cycle that is too short, with the shortest that is long enough."""
+    enough = np.flatnonzero(laid_out(laid, asked, LONGEST)[1][-1] < NEVER)
+    words = f"it needs a cycle of at least {enough[0]} s" if enough.size else "no cycle up to 255 s is long enough"
+    raise NoChange(f"pattern {laid.pattern}: no splits keep the rules in a cycle of {laid.cycle // 10} s; {words}")
 
 
 def apply(tables: Tables, change: Change) -> None:
@@ -235,22 +269,25 @@ def apply(tables: Tables, change: Change) -> None:
 
 
 def mend(tables: Tables, known: Intersection, made: list[Change]) -> Iterator[str]:
-    """Puts the least changes into tables that break rule 17, 18 or 19, adds them to `made`, and yields them in words;
-    or why there are none."""
+    """Puts the least changes into tables of patterns that break rule 17, 18 or 19, or of which a phase may be skipped
+    after a lagging phase; adds the changes to `made`, and yields them in words, or why there are none."""
     broken = rules.broken(tables)
     first = next((it.rule for it in broken if it.rule in FIRST), None)
-    patterns = sorted({it.row for it in broken if it.rule in SPLIT_RULES})
-    if first is not None and (patterns or tables.patterns()):
+    refused = {it.row for it in broken if it.rule in SPLIT_RULES}
+    if first is not None and (refused or tables.patterns()):
         yield f"mend rule {first} first: the splits depend on it"
         return
-    for pattern in patterns:
+    patterns = refused | {it for it in tables.patterns() if lagging.is_short(Layout(tables, it), known.partners)}
+    for pattern in sorted(patterns):
         try:
             change = least_change(tables, pattern, known)
+            if pattern not in refused and not change.roomy:
+                continue  # the cycle is too short for more than the rules ask
             apply(tables, change)
             made.append(change)
             yield change.words(known)
         except NoChange as why:
             yield str(why)
-    still = {it.row for it in rules.broken(tables) if it.rule in SPLIT_RULES} - set(patterns)
+    still = {it.row for it in rules.broken(tables) if it.rule in SPLIT_RULES} - patterns
     for pattern in sorted(still):
         yield f"pattern {pattern} breaks a rule then, since it runs the same split: give it a split of its own"

@@ -1,9 +1,9 @@
-"""Plans in which a lagging phase that is forced off keeps the next barrier group from its turn.
+"""Plans in which a lagging phase that is forced off keeps phases of the next barrier group from their turn.
 
 The lagging phase and the coordinated phase beside it have one force point, and docs/TICK.md doesn't count a force-off
 at the same tick as a reason to leave the group: the coordinated phase turns yellow only after the clearance of the
 lagging one. Until its own clearance is over, the ring that waits may go back to an earlier phase as soon as no phase of
-the next group has room."""
+the next group that is called has room. So each phase of the group must have the room by itself."""
 
 from collections.abc import Iterator
 
@@ -41,19 +41,55 @@ def rooms_after(laid: Layout, phase: int, partners: list[int]) -> dict[int, int]
     return {it: laid.last_end(it) - begins - least_service(laid.tables, it) for it in served}
 
 
-def of_pattern(tables: Tables, pattern: int, number: int, names: Names) -> Iterator[Finding]:
-    """Yields the lagging phases of a pattern after which no phase of the next group has room."""
-    laid, known = Layout(tables, pattern), names.intersection(number)
+def shortages(laid: Layout, partners: list[int]) -> Iterator[tuple[int, int, dict[int, int]]]:
+    """Yields each lagging phase, the coordinated phase beside it, and the ticks that phases of the next group lack to
+    be served, even if only they are called, in a cycle in which the lagging phase is forced off."""
     for lagging, coordinated in lagging_pairs(laid):
-        found, asked = rooms_after(laid, lagging, known.partners), late(laid, lagging, coordinated)
-        if lagging not in known.partners and found and all(0 <= room < asked for room in found.values()):
-            lacks = -(-(asked - max(found.values())) // 10)
-            after = many(known.phase_name(it) for it in found)
+        if lagging not in partners:
+            asked = late(laid, lagging, coordinated)
+            rooms = rooms_after(laid, lagging, partners)
+            yield lagging, coordinated, {it: asked - room for it, room in rooms.items() if 0 <= room < asked}
+
+
+def first_needs(laid: Layout, partners: list[int]) -> dict[int, int]:
+    """Returns the ticks that the first phase of each ring in the group after a lagging phase needs beyond its minimum
+    service, so that no phase of the group is skipped. Those that follow it in its ring then have enough."""
+    needs: dict[int, int] = {}
+    for lagging, coordinated in lagging_pairs(laid):
+        if lagging not in partners:
+            rooms = rooms_after(laid, lagging, partners)
+            for order in laid.orders:
+                first = next((it for it in order if it in rooms), None)
+                if first is not None:
+                    needs[first] = late(laid, lagging, coordinated)
+    return needs
+
+
+def is_short(laid: Layout, partners: list[int]) -> bool:
+    """Tells whether a phase of a pattern may be skipped after a lagging phase."""
+    return any(lacks for _, _, lacks in shortages(laid, partners))
+
+
+def sentence(laid: Layout, phases: list[int], lack: int) -> str:
+    """Returns what phases with equal splits lack after a lagging phase, and how much more each needs."""
+    split = laid.time(phases[0]) // 10
+    if len(phases) == 1:
+        return f"its split of {split} s is too short by {seconds(lack)}; give it {-(-lack // 10)} s more"
+    return f"their splits of {split} s are too short by {seconds(lack)}; give each {-(-lack // 10)} s more"
+
+
+def of_pattern(tables: Tables, pattern: int, number: int, names: Names) -> Iterator[Finding]:
+    """Yields the phases of a pattern that may be skipped after a lagging phase."""
+    laid, known = Layout(tables, pattern), names.intersection(number)
+    for lagging, coordinated, lacks in shortages(laid, known.partners):
+        is_whole = len(lacks) == len(rooms_after(laid, lagging, known.partners))
+        for equal in dict.fromkeys((laid.time(it), lack) for it, lack in lacks.items()):
+            phases = [it for it, lack in lacks.items() if (laid.time(it), lack) == equal]
+            verb = ("are" if len(phases) > 1 else "is") if is_whole else "may be"
             yield warn(names.called(number), (
-                f"pattern {pattern} lets {known.phase_name(lagging)} lag: in a cycle in which it is forced off, "
-                f"{known.phase_name(coordinated)} stays green until {lagging} has cleared, and then there is no room "
-                f"for {after}, so the side isn't served; give it {lacks} s more beyond its minimum service "
-                f"({seconds(max(found.values()))} now), or let {lagging} lead"
+                f"pattern {pattern}: {many(map(known.phase_name, phases))} {verb} skipped when the lagging phase "
+                f"{lagging} is forced off, since phase {coordinated} stays green until {lagging} has cleared: "
+                f"{sentence(laid, phases, equal[1])}, or let {lagging} lead"
             ))  # fmt: skip
 
 

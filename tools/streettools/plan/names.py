@@ -76,19 +76,27 @@ class Names:
             if len(text) > 9 or not 1 <= int(text) <= count:
                 raise Fault(f"{of} has no cabinet {text}: its cabinets are 1 to {count}")
             return int(text)
-        known = {number: " ".join(self.intersection(number).name.split()) for number in range(1, count + 1)}
-        if not any(known.values()):
+        known = [self.intersection(number).name for number in range(1, count + 1)]
+        if not any(known):
             raise Fault(f"no name is known here, so not {text!r} either: a timing sheet or a names file gives names")
-        fits = [number for number, name in known.items() if name.casefold() == text.casefold()]
-        fits = fits or [number for number, name in known.items() if text.casefold() in name.casefold()]
+        fits = fitting(known, text)
         if len(fits) != 1:
-            listed = ", ".join(repr(name) for name in known.values() if name)
+            listed = ", ".join(repr(name) for name in known if name)
             raise Fault(f"{'several cabinets' if fits else 'no cabinet'} named {text!r}: there are {listed}")
         return fits[0]
 
     def called(self, number: int) -> str:
         """Returns what a cabinet is called."""
         return self.intersection(number).name or f"cabinet {number}"
+
+
+def fitting(known: list[str], text: str) -> list[int]:
+    """Returns the places, from 1, of the names that a text may mean, whatever its case: those that are equal to it; if
+    there are none, those of which it is a part."""
+    names = [" ".join(it.split()).casefold() for it in known]
+    meant = " ".join(text.split()).casefold()
+    equal = [place for place, name in enumerate(names, 1) if name == meant]
+    return equal or [place for place, name in enumerate(names, 1) if meant and meant in name]
 
 
 def bare(it: object) -> dict[str, Any]:

@@ -130,16 +130,24 @@ def draw_zero(axes, laid: Layout) -> None:
         axes.text(ticks / 10, 2.38, words, **look)
 
 
-def table_text(tables: Tables, known: Intersection) -> str:
-    """Returns the times of the phases as lines of even width."""
-    phases = [it for it in tables.enabled() if it not in known.partners]
-    lines = [f"{'phase':10}" + "".join(f"{it:>7}" for it in phases)]
-    for name, (column, scale) in ROWS.items():
-        lines.append(f"{name:10}" + "".join(f"{value(tables, ('phase', it, column)) / scale:>7g}" for it in phases))
-    recalls = [fields.show_option("recall", value(tables, ("phase", it, 21))) for it in phases]
-    words = ["+".join(SHORT[word] for word in (it if isinstance(it, list) else [it])) for it in recalls]
-    lines.append(f"{'recall':10}" + "".join(f"{it:>7}" for it in words))
-    return "\n".join(lines)
+def table_columns(tables: Tables, known: Intersection) -> list[list[str]]:
+    """Returns the times of the phases as columns: the names of the rows, then a column for each phase."""
+    columns = [["phase", *ROWS, "recall"]]
+    for phase in (it for it in tables.enabled() if it not in known.partners):
+        recall = fields.show_option("recall", value(tables, ("phase", phase, 21)))
+        words = "+".join(SHORT[word] for word in (recall if isinstance(recall, list) else [recall]))
+        times = (f"{value(tables, ('phase', phase, column)) / scale:g}" for column, scale in ROWS.values())
+        columns.append([str(phase), *times, words])
+    return columns
+
+
+def draw_table(figure, columns: list[list[str]], top: float) -> None:
+    """Writes a table below the slots. Each column has its place, since browsers draw several blanks as one."""
+    left, first, wide = 0.06, 0.121, 0.0424
+    for place, words in enumerate(columns):
+        where, side = (first + wide * place, "right") if place else (left, "left")
+        look = {"va": "top", "ha": side, "family": "monospace", "fontsize": 8, "color": INK}
+        figure.text(where, top, "\n".join(words), **look)
 
 
 def title(tables: Tables, known: Intersection, called: str, pattern: int) -> str:
@@ -179,6 +187,6 @@ def write(tables: Tables, known: Intersection, called: str, pattern: int, path: 
         "seconds; the thick line in a slot is the minimum service of its phase, red where the green is too short for it"
     )
     figure.suptitle(title(tables, known, called, pattern), x=0.01, ha="left", fontsize=11, fontweight="bold", color=INK)
-    figure.text(0.06, 1 - 3.4 / height, table_text(tables, known), va="top", family="monospace", fontsize=8, color=INK)
+    draw_table(figure, table_columns(tables, known), 1 - 3.4 / height)
     figure.text(0.06, 0.1 / height, "\n".join(words), va="bottom", fontsize=8, color=WRONG)
     save(figure, path)

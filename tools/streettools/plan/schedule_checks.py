@@ -195,6 +195,11 @@ def all_of(street: Street, tables: list[Tables]) -> Iterator[Finding]:
     yield from of_openings(street, tables)
     yield from refused(street, tables)
     yield from of_sections(street)
+    yield from of_entries(street)
+    yield from of_clocks(street)
+
+
+def of_entries(street: Street) -> Iterator[Finding]:
+    """Yields the doubts about the times of the schedule, which need no tables."""
     yield from of_times(street)
     yield from of_order(street)
-    yield from of_clocks(street)

@@ -1,12 +1,11 @@
-"""A sheet to start from, and its file of volumes: a street whose intersections have usual layouts, plans with the
-cycles that are asked for, splits that the program accepts, and offsets that follow the travel times.
+"""A sheet to start from: a street whose intersections have usual layouts, plans with the cycles that are asked for,
+splits that the program accepts, and offsets that follow the travel times.
 
 Its numbers are placeholders. A timing engineer replaces them by those of the real timing sheet; comments in the sheet
 say so."""
 
 from collections.abc import Iterator
 from dataclasses import dataclass
-from typing import Any
 
 from ..shared.cells import cells_between, tables_of
 from ..shared.clock import DAY_SECONDS
@@ -21,9 +20,6 @@ SIDE_SPEED = 30.0
 """Miles an hour on the side streets."""
 
 DIRECTIONS = {"EB": "eastbound", "WB": "westbound", "NB": "northbound", "SB": "southbound"}
-ORDER = tuple(DIRECTIONS)
-THROUGH, LEFT, SIDE, SIDE_LEFT = 600, 60, 150, 40
-"""Vehicles an hour of each movement, to start from."""
 
 
 @dataclass(frozen=True)
@@ -207,34 +203,3 @@ def sheet(asked: Wish) -> tuple[str, Street]:
     for number in range(1, len(asked.intersections) + 1):
         rows += intersection(asked, number)
     return mended("\n".join(rows) + "\n")
-
-
-def movement(asked: Wish, number: int, phase: int, name: str) -> dict[str, Any]:
-    """Returns a movement of a file of volumes."""
-    is_main, is_left = name[:2] in ("EB", "WB"), name.endswith("L") and phase in (1, 3, 5, 7)
-    volume = (LEFT if is_left else THROUGH) if is_main else (SIDE_LEFT if is_left else SIDE)
-    found: dict[str, Any] = {"name": name, "phase": phase, "volume": volume}
-    if is_main and not is_left:
-        found["lanes"] = 2
-    if name == "EBT" and number < len(asked.intersections):
-        found |= {"to": f"{number + 1} EB", "share": 0.9}
-    if name == "WBT" and number > 1:
-        found |= {"to": f"{number - 1} WB", "share": 0.9}
-    return found
-
-
-def volumes(asked: Wish) -> dict[str, Any]:
-    """Returns the document of a file of volumes: every phase has vehicles, and the side streets have pedestrians."""
-    cabinets = []
-    for number, (_, called) in enumerate(asked.intersections, 1):
-        names = KINDS[called].movements
-        order = sorted(names, key=lambda it: (ORDER.index(names[it][:2]), names[it][2:] != "T"))
-        crossing = next(it for it in (4, 3) if it in names)
-        cabinets.append(
-            {
-                "number": number,
-                "movements": [movement(asked, number, it, names[it]) for it in order],
-                "crossings": [{"phase": crossing, "persons": 10}],
-            }
-        )
-    return {"title": asked.title, "cabinet": cabinets}

@@ -40,9 +40,9 @@ def red_due(phase: Phase, metric: bool) -> float | None:
 
 
 def clearance_due(phase: Phase, metric: bool) -> int | None:
-    """Returns the pedestrian clearance in whole seconds that a crossing's length asks; None where no length is
-    known."""
+    """Returns the pedestrian clearance in whole seconds that a crossing's length asks, rounded up; None where no length
+    is known."""
     if not phase.crossing:
         return None
     feet = phase.crossing * (FEET_IN_METRE if metric else 1)
-    return math.floor(feet / WALKING + 0.5)
+    return math.ceil(round(feet / WALKING, 3))

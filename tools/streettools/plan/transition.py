@@ -176,15 +176,24 @@ def of_entry(street: Street, tables: list[Tables], line: list[Entry], at: int) -
     if not changes or line[at - 1].pattern == entry.pattern and len(line) > 1:
         return
     worst = max(changes, key=lambda number: changes[number].ticks)
-    last, cycles = street.names.called(worst), changes[worst].cycles
+    last = street.names.called(worst)
     needed = changes[worst].ticks / 10
     head = f"at {day_text(entry.second)} pattern {entry.pattern}"
     done = f"left undisturbed, every intersection is on its offset by {day_text(entry.second + needed)} at the latest"
-    yield note("schedule", f"{head}: {done}; {last} takes longest, {cycles} cycles")
+    yield note("schedule", f"{head}: {done}; {longest(street, changes)}")
     left = (after.second - entry.second) % DAY_SECONDS
     if len(line) > 1 and left < needed:
         words = f"{head} may not come onto its offset at {last} before the next change, {left // 60} min later"
         yield warn("schedule", f"{words}: it takes up to {changes[worst].words}", Rank.LOOK)
+
+
+def longest(street: Street, changes: Changes) -> str:
+    """Returns which cabinets take longest for a change, if not all take as long, and how many cycles that is."""
+    worst = max(changes.values(), key=lambda it: it.ticks)
+    slow = [number for number, it in changes.items() if it.ticks == worst.ticks]
+    if len(slow) == len(changes):
+        return f"{'each' if len(slow) > 1 else 'that'} takes {worst.cycles} cycles"
+    return f"{many(map(street.names.called, slow))} take{'s' * (len(slow) == 1)} longest, {worst.cycles} cycles"
 
 
 def of_schedule(street: Street, tables: list[Tables]) -> Iterator[Finding]:

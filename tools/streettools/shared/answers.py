@@ -35,10 +35,15 @@ class ClockNamed(NamedTuple):
 
 
 class Requested(NamedTuple):
-    """A priority request was given: its number, and its departure in ticks from now."""
+    """A priority request was given: its number; its departure and its arrival in ticks from now; its phase, class and
+    level."""
 
     number: int
     departure: int
+    arrival: int
+    phase: int
+    klass: int
+    level: int
 
 
 class Cancelled(NamedTuple):
@@ -79,7 +84,9 @@ def order(name: Arcs, value: Field) -> Order | None:
     if name == oids.CLOCK:
         return ClockNamed(number_of(value.content))
     if name == oids.REQUEST and len(value.content) == 8:
-        return Requested(value.content[0], int.from_bytes(value.content[6:8], "big"))
+        number, klass, level, phase = value.content[:4]
+        arrival, departure = (int.from_bytes(value.content[at : at + 2], "big") for at in (4, 6))
+        return Requested(number, departure, arrival, phase, klass, level)
     if name == oids.CANCEL:
         return Cancelled(number_of(value.content))
     return None

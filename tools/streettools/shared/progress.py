@@ -2,7 +2,7 @@
 
 import contextlib
 import sys
-from collections.abc import Iterator
+from collections.abc import Callable, Iterator
 from typing import Any
 
 
@@ -18,21 +18,16 @@ def bar(total: int | None, unit: str, **more: Any) -> Any:
 
 
 @contextlib.contextmanager
-def waiting(seconds: int) -> Iterator[None]:
-    """Shows how much of a time is over, while the block runs."""
+def each_second(does: Callable[[], object]) -> Iterator[None]:
+    """Does something each second, in a thread of its own, while the block runs."""
     import threading
 
-    shown = bar(seconds, "s", bar_format="{bar:40} {elapsed}")
     over = threading.Event()
 
     def show() -> None:
         while not over.wait(1):
-            shown.update(1 if shown.n < seconds - 1 else 0)
-            shown.refresh()
+            does()
 
-    if shown is None:
-        yield
-        return
     thread = threading.Thread(target=show, daemon=True)
     thread.start()
     try:
@@ -40,4 +35,37 @@ def waiting(seconds: int) -> Iterator[None]:
     finally:
         over.set()
         thread.join()
+
+
+@contextlib.contextmanager
+def waiting(seconds: int) -> Iterator[None]:
+    """Shows how much of a time is over, while the block runs."""
+    shown = bar(seconds, "s", bar_format="{bar:40} {elapsed}")
+    if shown is None:
+        yield
+        return
+
+    def show() -> None:
+        shown.update(1 if shown.n < seconds - 1 else 0)
+        shown.refresh()
+
+    try:
+        with each_second(show):
+            yield
+    finally:
+        shown.close()
+
+
+@contextlib.contextmanager
+def counted(total: int, unit: str) -> Iterator[Any]:
+    """Shows a bar from the start, and each second how long it has lasted, while the block runs; the block has None if
+    no terminal shows it."""
+    shown = bar(total, unit)
+    if shown is None:
+        yield None
+        return
+    try:
+        with each_second(shown.refresh):
+            yield shown
+    finally:
         shown.close()

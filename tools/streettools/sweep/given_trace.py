@@ -31,7 +31,7 @@ examples:
   ./arterial sweep measure out/ 'delay_mean each phase' split_failures -o measures.csv   # a folder of cosim
 
 The table has one row. A folder of `cosim run` or `cosim queues` also has the measures of vehicles; --from excludes
-those that start earlier. ./arterial sweep measures lists the measures, docs/SWEEP.md explains them."""
+vehicles that start earlier. ./arterial sweep measures lists the measures, docs/SWEEP.md explains them."""
 LONGEST = 600.0
 """Seconds that a check of a trace may take."""
 

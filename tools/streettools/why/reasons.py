@@ -12,7 +12,7 @@ from model import modes
 from model.calls import Caller, called, callers, servable
 from model.goals import in_the_way
 from model.lesser import has_least_green, hurry, signal_next
-from model.rings import Ending, Hold, is_startable, runs_out
+from model.rings import EXTENSION_LIMIT, Ending, Hold, is_startable, runs_out
 from model.sides import incompatible
 from model.tables import enabled, rows
 from model.tick import Decided
@@ -38,6 +38,7 @@ class Kind(Enum):
     FLASHING = "flashing don't walk"
     EXTENDED = "neither gap nor maximum"
     HELD = "held until its force point"
+    REQUEST = "held by a priority request"
     CLEARANCE = "clearance"
     TURN = "turn"
     REVERT = "red revert"
@@ -49,8 +50,9 @@ class Kind(Enum):
 
 class Reason(NamedTuple):
     """A reason: its kind and its subject. `phases` are the phases that are waited for; `across` tells that they are of
-    the other ring, so that the barrier is waited for; `number` is that of a pattern or a preempt; `ticks` says how many
-    are missing; `word` is how a green ended, how it came, or the stage of a preempt."""
+    the other ring, so that the barrier is waited for; `number` is that of a pattern, a preempt or a priority request;
+    `ticks` says how many are missing, or for how many a request may hold a green; `word` is how a green ended, how it
+    came, or the stage of a preempt."""
 
     kind: Kind
     phases: tuple[int, ...] = ()
@@ -92,7 +94,9 @@ def reasons(at: Decided, p: int) -> Reasons:
     if p in at.begun:
         return (Reason(Kind.BEGINS, word=came_by(at, p)),)
     if p in at.ended:
-        return (Reason(Kind.ENDS, word=ended_by(at, p)),)
+        word = ended_by(at, p)
+        number = at.rings.request if word == Ending.PRIORITY.value else 0
+        return (Reason(Kind.ENDS, number=number, word=word),)
     if shown is Colour.GREEN:
         return (stays(at, p, False),)
     if shown is not Colour.RED and runs_out(at.past, p) is not Colour.RED:
@@ -184,6 +188,8 @@ def stays(at: Decided, p: int, across: bool) -> Reason:
     if hold is Hold.NO_REASON:
         if rings.plan is None:
             return Reason(Kind.EXTENDED, (p,), across, word="maximum")
+        if p in rings.plan.coordinated and rings.counter >= rings.plan.force[p]:
+            return by_request(at, across)
         kind = Kind.HELD if p in rings.plan.coordinated else Kind.EXTENDED
         return Reason(kind, (p,), across, number=at.now.bound, word="force point")
     if hold is Hold.BARRIER and not across:
@@ -192,6 +198,14 @@ def stays(at: Decided, p: int, across: bool) -> Reason:
         return Reason(Kind.UNKNOWN, (p,), across)
     crowded = rings.demand & incompatible(at.past.tables)[p]
     return Reason(Kind.NOTHING_NEXT, (p,), across, word="no room" if crowded else "no call")
+
+
+def by_request(at: Decided, across: bool) -> Reason:
+    """Returns that the active priority request holds the coordinated phases that are past their force points."""
+    rings = at.rings
+    held = (q for q in rings.plan.coordinated if q in rings.on.values() and rings.counter >= rings.plan.force[q])
+    limit = int(at.past.tables.unit(EXTENSION_LIMIT))
+    return Reason(Kind.REQUEST, tuple(sorted(held)), across, number=rings.request, ticks=limit)
 
 
 def barrier(at: Decided, ring: int) -> Reason:

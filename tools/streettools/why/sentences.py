@@ -11,7 +11,8 @@ RULES = {
     Kind.DISABLED: "words-and-counts", Kind.START_UP: "mode", Kind.FLASH: "mode", Kind.ENDING: "mode",
     Kind.SEEK: "certain-phases", Kind.PREEMPT: "preempts", Kind.OMITTED: "demand", Kind.UNCALLED: "demand",
     Kind.REST: "window", Kind.ROOM: "room", Kind.MINIMUM: "served", Kind.WALK: "served", Kind.FLASHING: "served",
-    Kind.EXTENDED: "gap", Kind.HELD: "reason", Kind.CLEARANCE: "intervals", Kind.TURN: "what-begins",
+    Kind.EXTENDED: "gap", Kind.HELD: "reason", Kind.REQUEST: "reason", Kind.CLEARANCE: "intervals",
+    Kind.TURN: "what-begins",
     Kind.REVERT: "can-begin", Kind.NOTHING_NEXT: "next-phase", Kind.BEGINS: "what-begins",
     Kind.ENDS: "what-ends", Kind.UNKNOWN: "order",
 }  # fmt: skip
@@ -40,6 +41,9 @@ COMINGS = {
 }  # fmt: skip
 """How a green begins, in words."""
 
+
+AT_BARRIER = "at the barrier it waits for the other ring: "
+"""How a reason begins that is about the other ring."""
 
 NEXT = {"no call": "no conflicting phase is called", "no room": "no conflicting phase that is called has room"}
 """Why nothing follows a green that may end, in words."""
@@ -78,8 +82,7 @@ class Sentences:
         """Returns the words for the phases that a reason is about."""
         if reason.phases == (self.phase,):
             return "it"
-        named = self.phases(reason.phases)
-        return f"at the barrier it waits for the other ring: {named}" if reason.across else named
+        return f"{AT_BARRIER if reason.across else ''}{self.phases(reason.phases)}"
 
     def reason(self, it: Reason) -> str:
         """Returns a reason in words."""
@@ -109,6 +112,9 @@ class Sentences:
             Kind.FLASHING: f"{who} has its pedestrian clearance (flashing don't walk)",
             Kind.EXTENDED: f"{who} is green: there was no gap yet, and {end}",
             Kind.HELD: f"{who} is coordinated and keeps its green until its force point",
+            Kind.REQUEST: f"{AT_BARRIER if it.across else ''}priority request {it.number} holds "
+            f"{self.phases(it.phases)} past {'its' if len(it.phases) == 1 else 'their'} force point, at most "
+            f"{it.ticks / 10:g} s (extension limit)",
             Kind.CLEARANCE: f"{who} is in its clearance (yellow change, red clearance)",
             Kind.TURN: f"{who} {'come' if len(it.phases) > 1 else 'comes'} first in the sequence",
             Kind.REST: f"coordination: {who} rest until the window ends, {it.ticks / 10:g} s from here by the "
@@ -118,6 +124,8 @@ class Sentences:
     def of_itself(self, it: Reason) -> dict[Kind, str]:
         """Returns the words for reasons that are about the phase itself."""
         came, ended = COMINGS.get(it.word, it.word), ENDINGS.get(it.word, it.word)
+        if it.word == "priority":
+            ended = f"priority request {it.number} ends greens that are served, so that the coordinated phases come"
         return {
             Kind.DISABLED: "it is not enabled in the tables in force",
             Kind.OMITTED: f"the split of pattern {it.number} omits it",

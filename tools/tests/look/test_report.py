@@ -5,8 +5,10 @@ import sys
 from collections import Counter
 
 import pytest
-from streettools.shared.answers import refused
+from streettools.look import requests
+from streettools.shared.answers import Requested, refused
 from streettools.shared.cabinet import Cabinet, Cycle
+from streettools.shared.trace_records import Frame
 
 from .conftest import SMALL, STREET, TOP, VECTORS, run
 
@@ -184,3 +186,81 @@ def test_a_run_without_traffic_says_so_and_names_two_ways_to_get_some(look, cabi
     opening = "F 1 0 RRRRRRRRRRRRRRRR DDDDDDDDDDDDDDDD S 0 0 0"
     said = look("report", given="".join(f"{it}\n" for it in (first, opening, "R 1", "J 1 4*10", "Z 1")))
     assert ("no traffic: " in said and "aximum recall" in said and "`arterial cosim queues`" in said) is has_line
+
+
+TRAFFIC = ["detectors", "push-button", "street", "bus", "railroad", "two-cabinets"]
+
+
+@pytest.mark.parametrize("name", TRAFFIC)
+def test_a_run_whose_scenario_has_vehicles_or_pedestrians_has_traffic(look, name):
+    """Each of these scenarios has such an input; the rounds up to the last of them are enough."""
+    scenario = json.loads((TOP / f"scenarios/{name}.json").read_text())
+    last = max(it["round"] for it in scenario["inputs"] if "veh" in it or "ped" in it)
+    scenario = {"rounds": last, "ticks": scenario["ticks"], "version": 1} | {
+        name: scenario[name] for name in ("cabinets", "inputs") if name in scenario
+    }
+    scenario["inputs"] = [it for it in scenario["inputs"] if it["round"] <= last]
+    sys.path.append(str(TOP))
+    from model.commands import answer
+
+    assert "no traffic: " not in look("report", given=answer(["run"], json.dumps(scenario).encode()).output.decode())
+
+
+def test_only_detectors_and_push_buttons_are_traffic(look):
+    """A train, and a vehicle that leaves a detector, call no phase."""
+    inputs = '[{"cabinet":1,"on":true,"preempt":1,"round":1},{"cabinet":1,"on":false,"round":1,"veh":4}]'
+    first = f'S {{"cabinets":[{{}}],"inputs":{inputs},"rounds":1,"ticks":10,"version":1}}'
+    opening = "F 1 0 RRRRRRRRRRRRRRRR DDDDDDDDDDDDDDDD S 0 0 0"
+    said = look("report", given="".join(f"{it}\n" for it in (first, opening, "R 1", "J 1 0*2 4*10", "Z 1")))
+    assert "no traffic: " in said
+
+
+def bus():
+    """Returns a trace of the first cabinet of scenarios/bus.json, by the model."""
+    sys.path.append(str(TOP))
+    from model.commands import answer
+
+    return answer(["run"], (TOP / "scenarios/bus.json").read_bytes()).output.decode()
+
+
+def test_requests_tell_how_long_they_held_a_green_or_that_they_did_nothing(look):
+    """Pattern 1, counter = tick - 60 or - 960 .., force point of 2 and 6 at counter 245. Request 1 is given after tick
+    480: phases 4 and 8 end at tick 481; 8 has had its gap. Request 2 departs at tick 1241, with counter 281: 36 ticks
+    past the force point. Request 3 departs before the force point, while phase 6 is green. Phase 4 isn't coordinated.
+    The last request is cancelled before tick 2121, with counter 261: 16 ticks past it."""
+    text = bus()
+    rows = reported(look, given=text)["cabinets"][0]["requests"]
+    assert [(it["number"], it["phase"], it["held"], it["ended"]) for it in rows] == [
+        (1, 2, 0.0, [4]), (2, 2, 3.6, []), (3, 6, 0.0, []), (4, 4, 0.0, []), (1, 6, 1.6, []),
+    ]  # fmt: skip
+    said = look("report", given=text)
+    assert "request 1, phase 2: ended the green of phase 4\n" in said
+    assert "request 2, phase 2: held the green 3.6 s\n" in said
+    assert "request 3, phase 6: had no effect: it was green already\n" in said
+    assert "request 4, phase 4: had no effect\n" in said
+
+
+def test_rings_have_a_bar_for_each_request(drawn):
+    """From 90 to 120 s requests 2, 3 and 4 are live at some time; request 1 is gone."""
+    found = drawn("rings", "--cabinet", 1, "--from", 90, "--to", 120, given=bus())
+    assert [found.groups[f"request-{it}"] for it in ("2-2", "3-6", "4-4", "1-2")] == [1, 1, 1, 0]
+    assert found.texts["request 2, phase 2"] == 1
+
+
+@pytest.mark.parametrize("phase", [0, 17, 255])
+def test_a_request_for_a_phase_that_there_is_none_of_has_no_effect(phase):
+    """A trace that wasn't checked may have a reply with any octets."""
+    cabinet = Cabinet({"cabinets": [{}]}, 1)
+    cabinet.shown(Frame(1, 60, "G" * 16, "D" * 16, "F", 0, 0, 0))
+    asked = requests.Requests(cabinet)
+    asked.ordered(Requested(1, 100, 50, phase, 1, 1), 60)
+    asked.shown(Frame(1, 90, "Y" * 16, "D" * 16, "F", 0, 0, 0))
+    assert [it.effect() for it in asked.all] == ["had no effect"]
+
+
+def test_requests_that_replace_each_other_take_little_time():
+    """Ten thousand in one reply: only those that may be live are kept at hand."""
+    asked = requests.Requests(Cabinet({"cabinets": [{}]}, 1))
+    for number in range(10_000):
+        asked.ordered(Requested(number % 256, 100, 50, 2, 1, 1), 60)
+    assert len(asked.all) == 10_000 and len(asked.recent) == 256

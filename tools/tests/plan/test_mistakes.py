@@ -344,3 +344,18 @@ def test_warnings_come_by_their_rank():
     lines = found_in(changed({"yellow = 4.0": "yellow = 3.5", "dwell = [2]": "", "15:30:00": "05:30:00"}))
     ranks = [line.split("(")[1].split(")")[0] for line in lines[:3]]
     assert ranks == ["dangerous", "probably a mistake", "worth a look"]
+
+
+def test_beside_a_value_that_is_not_allowed_the_times_of_the_schedule_are_checked():
+    """Half past six is written as 630, and the yellow change in tenths: both are reported, and that the rest waits."""
+    text = SHEET.replace("at = 06:30:00", "at = 630").replace("yellow = 4.0", "yellow = 40")
+    found = found_in(text)
+    assert any("yellow: error: 40 s is not 0 to 25.5" in it for it in found)
+    assert any("second 630 of the day is 0:10:30; is 6:30 meant?" in it for it in found)
+    assert "note: rules and warnings are checked after these values are corrected" in found
+
+
+def test_a_time_of_the_schedule_that_is_not_allowed_gives_no_doubt_about_its_order():
+    """The time that isn't one stands for nothing."""
+    found = found_in(SHEET.replace("at = 15:30:00", 'at = "25:30"'))
+    assert any("expected a time of day" in it for it in found) and not any("is listed after" in it for it in found)

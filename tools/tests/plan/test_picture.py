@@ -1,7 +1,10 @@
 """What a picture of a plan marks."""
 
+import re
+from xml.etree import ElementTree
+
 import pytest
-from streettools.plan import layout, picture
+from streettools.plan import layout, names, picture
 from streettools.shared.tables import Tables
 
 
@@ -35,3 +38,22 @@ def test_local_zero_and_the_moment_of_the_offset_are_marked(cells, marks):
     tables.put(cells)
     picture.draw_zero(axes, layout.Layout(tables, 1))
     assert axes.words == marks and axes.lines == [at for at, _ in marks]
+
+
+def test_each_value_of_the_table_has_its_place_so_that_browsers_keep_the_columns(tmp_path):
+    """No text has blanks in a row, which a browser draws as one. The minimum greens of the standard table, 5 s for
+    left turns and 10 s, are at one height and from left to right."""
+    path = tmp_path / "plan.svg"
+    picture.write(Tables(), names.Intersection(), "Main", 1, str(path))
+    texts = [it for it in ElementTree.parse(path).iter() if it.tag.endswith("}text") and it.text]
+    assert not [it.text for it in texts if "  " in it.text]
+
+    def place(it: ElementTree.Element) -> tuple[float, float]:
+        """Returns how far down and to the right a text is."""
+        x, y = re.findall(r"-?[0-9.]+", it.attrib["transform"])[:2] if "transform" in it.attrib else ("0", "0")
+        return float(y), float(x)
+
+    height = next(place(it)[0] for it in texts if it.text == "min green")
+    row = sorted((place(it)[1], it.text) for it in texts if abs(place(it)[0] - height) < 1)
+    assert [text for _, text in row] == ["min green", "5", "10", "5", "10", "5", "10", "5", "10"]
+    assert len({x for x, _ in row}) == len(row)

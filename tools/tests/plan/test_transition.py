@@ -69,8 +69,20 @@ def test_a_change_of_plan_has_its_cycles_and_minutes():
     )
     assert told[1] == (
         "schedule: note: at 06:30:00 pattern 2: left undisturbed, every intersection is on its offset by 06:58:45 at "
-        "the latest; Grant St takes longest, 14 cycles"
+        "the latest; that takes 14 cycles"
     )
+
+
+@pytest.mark.parametrize(
+    ("skip", "words"),
+    [("3", "each takes 14 cycles"), ("12", "Grant St takes longest, 14 cycles")],
+)
+def test_an_intersection_is_named_only_if_it_takes_longer_than_another(skip, words):
+    """A second intersection with a skip of 3 s takes the same 14 cycles; with 12 s, fewer."""
+    second = SHEET[SHEET.index("[[intersection]]") :].replace("Grant St", "Oak St")
+    second = second.replace('"shortway"', f'"shortway"\nskip_limit = {skip}')
+    told = [it for it in notes_of(SHEET + second) if "left undisturbed" in it]
+    assert told[0].endswith(words)
 
 
 def test_a_change_that_the_next_one_overtakes_is_worth_a_look():

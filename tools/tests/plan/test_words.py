@@ -67,7 +67,7 @@ WARNINGS = {
     ),
     "a clearance short for the width": (
         "[intersection.phase]\n4 = {crossing = 60}",
-        "pedestrian clearance of 12 s; 60 ft at 3.5 ft/s take 17 s",
+        "pedestrian clearance of 12 s; 60 ft at 3.5 ft/s take 18 s",
     ),
     "a split that only just fits": (
         "[intersection.pattern.1]\nsplits = {1 = 15, 2 = 30, 3 = 10, 4 = 35, 5 = 15, 6 = 30, 7 = 15, 8 = 30}",
@@ -164,7 +164,7 @@ def test_red_clearances_are_width_and_a_vehicle_by_speed(speed, width, due):
 def test_metric_speeds_and_lengths_are_the_same_street():
     """72.4 km/h are 45 mph, and 18.3 m are 60 ft."""
     phase = names.Phase(speed=72.4, crossing=18.3)
-    assert street_facts.yellow_due(phase, metric=True) == 4.3 and street_facts.clearance_due(phase, metric=True) == 17
+    assert street_facts.yellow_due(phase, metric=True) == 4.3 and street_facts.clearance_due(phase, metric=True) == 18
 
 
 FAR = """

@@ -40,13 +40,15 @@ def row(values: list[float]) -> Row:
     ("values", "verdict", "sentence"),
     [
         # mean 3, deviation 1.5811, Student's point for 4 degrees 2.776: 2.776 × 1.5811 / √5 = 1.963
-        ([1, 2, 3, 4, 5], "more", "two against one: 3.0 s more delay a vehicle (1.0 to 5.0 s at 95 % over 5 seeds)"),
-        ([-1, -2, -3, -4, -5], "less", "3.0 s less delay a vehicle (1.0 to 5.0 s"),
-        ([-1, 0, 1, 2, 3], "no real difference", "no real difference in delay (-1.0 to +3.0 s at 95 % over 5 seeds)"),
-        ([0, 0, 0, 0, 0], "no real difference", "no real difference in delay (+0.0 to +0.0 s"),
-        ([4], "unknown", "4.0 s more delay a vehicle with one seed, which can't tell whether the difference is real"),
+        ([1, 2, 3, 4, 5], "more",
+         "'two' has 3.0 s more delay a vehicle than 'one' (1.0 to 5.0 s at 95 % over 5 seeds)"),
+        ([-1, -2, -3, -4, -5], "less", "'two' has 3.0 s less delay a vehicle than 'one' (1.0 to 5.0 s"),
+        ([-1, 0, 1, 2, 3], "no real difference",
+         "'two' has no real difference in delay from 'one' (-1.0 to +3.0 s at 95 % over 5 seeds)"),
+        ([0, 0, 0, 0, 0], "no real difference", "'two' has no real difference in delay from 'one' (+0.0 to +0.0 s"),
+        ([4], "unknown", "'two' has 4.0 s more delay a vehicle than 'one' with one seed, which can't tell whether the"),
     ],
-)
+)  # fmt: skip
 def test_a_difference_is_real_if_its_interval_hasnt_0_in_it(values, verdict, sentence):
     it = row(values)
     assert verdicts.verdict(it.more_delay) == verdict
@@ -72,7 +74,7 @@ def test_plans_are_compared_without_sumo(folder):
     assert of["the same", "all vehicles"]["delay_differs"] == "no real difference"
     assert of["free", "all vehicles"]["trips"] == of["one", "all vehicles"]["trips"]
     assert of["free", "all vehicles"]["more_delay"][0] != 0
-    assert "the same against one: no real difference in delay" in ran.stdout
+    assert "'the same' has no real difference in delay from 'one' " in ran.stdout
     assert {it.name for it in (folder / "out/03-2").iterdir()} == {
         "report.json", "report.txt", "session.trace", "session.names.json", "study.json"
     }  # fmt: skip

@@ -73,4 +73,4 @@ def test_offsets_are_compared_over_the_same_vehicles(program, tmp_path):
     (tmp_path / "harbor.compare.toml").write_text(text)
     status, table = said("cosim", "compare", tmp_path / "harbor.compare.toml", "--program", program)
     assert status == 0 and "at Harbor & Depot" in table
-    assert len(re.findall(r"^(?:two-way|all zero) against outbound: ", table, re.M)) == 2
+    assert len(re.findall(r"^'(?:two-way|all zero)' has .* 'outbound' ", table, re.M)) == 2

@@ -242,7 +242,7 @@ def test_permission_adds_gaps_and_two_who_complete_their_turn_to_a_protected_lef
     """Protected: 10 s of effective green, 5 a minute. Permissive in addition: at least the two of each green."""
     protected = turned_left()
     assert protected == pytest.approx(300, abs=6)
-    none, two = (turned_left(permitted=(6,), yielding=Yielding(sneakers=it)) for it in (0, 2))
+    none, two = (turned_left(permitted=(2,), yielding=Yielding(sneakers=it)) for it in (0, 2))
     assert none > protected + 60 and two == pytest.approx(none + 2 * 60, abs=10)
 
 

@@ -153,7 +153,8 @@ def shows_all(letters, spell, tick, found, word=3):
 
 
 LETTERS = {
-    Kind.MINIMUM: ("G", 3), Kind.EXTENDED: ("G", 3), Kind.HELD: ("G", 3), Kind.CLEARANCE: ("YC", 3),
+    Kind.MINIMUM: ("G", 3), Kind.EXTENDED: ("G", 3), Kind.HELD: ("G", 3), Kind.REQUEST: ("G", 3),
+    Kind.CLEARANCE: ("YC", 3),
     Kind.WALK: ("W", 4), Kind.FLASHING: ("F", 4),
 }  # fmt: skip
 """What a phase shows for which another waits, by the reason."""
@@ -171,10 +172,15 @@ def compare_others(it, letters, had):
             assert spell.until - began <= rows(had[began].tables)[p].least_green
         if spell.reason.kind is Kind.HELD:
             laid = plan(now.tables, now.bound)
-            assert p in laid.coordinated and had[spell.until - 1].counter < laid.force[p] + now.tables.unit(6)
+            assert p in laid.coordinated and had[spell.until - 1].counter < laid.force[p]
+        if spell.reason.kind is Kind.REQUEST:
+            laid = plan(now.tables, now.bound)
+            counters = [had[n].counter for n in range(it.tick, spell.until)]
+            assert p in laid.coordinated and spell.reason.ticks == now.tables.unit(6) and spell.reason.number > 0
+            assert all(laid.force[p] <= counter < laid.force[p] + now.tables.unit(6) for counter in counters)
         if spell.reason.kind is Kind.TURN:
             assert letters.at(it.tick, p) == "G" or p in now.demand
-    if spell.reason.across:
+    if spell.reason.across and spell.reason.kind is not Kind.REQUEST:
         own = rows(now.tables)[it.phase].ring
         assert all(rows(now.tables)[p].ring != own for p in spell.reason.phases)
 

@@ -29,6 +29,18 @@ FORCE = """{"version":1,"rounds":960,"ticks":1,"cabinets":[{"pattern":1,"clock":
 OMITTED = FORCE.replace('"clock":840}', '"clock":840,"cells":[["split",1,3,4,7]]}')
 """The same with phase 3 omitted by the split."""
 
+HELD = FORCE.replace('"clock":840}', '"clock":840,"cells":[["unit",6,40]]}').replace(
+    "}]}", '}],"priority":[{"round":210,"cabinet":1,"number":7,"class":1,"level":1,"phase":2,"arrival":50,'
+    '"departure":300}]}',
+)
+"""The same with a priority request for phase 2 before its force point, and an extension limit of 4 s."""
+
+EARLY = FORCE.replace(
+    "}]}", '}],"priority":[{"round":462,"cabinet":1,"number":7,"class":1,"level":1,"phase":6,"arrival":50,'
+    '"departure":300}]}',
+)
+"""The same with a request for phase 6 while phases 3 and 8 are green since tick 360."""
+
 PREEMPT = """{"version":1,"rounds":300,"ticks":1,"cabinets":[{"cells":[["preempt",1,13,"0408"]]}],
  "inputs":[{"round":100,"cabinet":1,"preempt":1,"on":true},{"round":110,"cabinet":1,"veh":3,"on":true}]}"""
 """A preempt for phases 4 and 8, called at tick 100, while the main street is green since tick 60."""
@@ -95,6 +107,27 @@ def test_coordinated_phases_rest_until_the_window_ends_at_counter_245(told):
     value = told(FORCE, 3, 250)
     assert deciding(value) == ("coordinated rest", [2, 6], False, 305)
     assert (value["reasons"][0]["ticks"], value["call"]["since"], value["came"], value["waited"]) == (55, 200, 360, 160)
+
+
+def test_a_priority_request_holds_the_coordinated_phases_past_their_force_point(told):
+    """Force point 245 at tick 305, and 40 ticks more: 285 + 55 + 50 is at most 405, so phase 3 still has room."""
+    at = {tick: told(HELD, 2, tick) for tick in (304, 305, 344)}
+    assert deciding(at[304]) == ("held until its force point", [2], False, 305)
+    assert deciding(at[305]) == deciding(at[344]) == ("held by a priority request", [2, 6], False, 345)
+    words = "priority request 7 holds phases 2 and 6 past their force point, at most 4 s (extension limit)"
+    assert (at[305]["reasons"][0]["words"], at[305]["reasons"][0]["rule"]) == (words, "docs/TICK.md#reason")
+    assert (at[305]["ended"], at[305]["ending"]) == (345, "force point")
+    waits = told(HELD, 3, 320)
+    assert deciding(waits) == ("held by a priority request", [2, 6], False, 345) and waits["came"] == 345 + 55
+
+
+def test_a_priority_request_ends_the_green_of_another_phase(told):
+    """Without it phase 3 is forced off at tick 465. Phase 8, next to it, has its minimum green of 10 s until tick 460.
+    The request of round 462 comes before tick 462."""
+    value = told(EARLY, 3, 462)
+    assert (value["since"], value["reasons"][0]["kind"], value["reasons"][0]["number"]) == (462, "turns yellow", 7)
+    assert value["reasons"][0]["words"].startswith("it turns yellow at this tick: priority request 7 ends greens")
+    assert value["shows"] == "yellow change"
 
 
 def test_a_call_has_no_room_before_its_force_point_until_the_cycle_is_over(told):

@@ -12,7 +12,7 @@ from ...shared.program import answering
 from ...shared.saying import say, say_replaced
 from ...shared.status import Status
 from .. import report
-from . import keeping
+from . import balance, keeping
 from . import study as queue_study
 from .given import Street, fitted, read_street, read_volumes
 from .keeping import TRACE
@@ -93,8 +93,10 @@ def ran(words: argparse.Namespace) -> tuple[Ran, Street]:
     shown = bar(round(asked.seconds * 10) // asked.step, "step")
     advance: Callable[[int], None] = (lambda step: None) if shown is None else lambda step: shown.update(1)
     try:
-        made = maker_of(words.policy, street.scenario)
-        return queue_study.run(program, fitted(volumes, street), street.scenario, asked, advance, made), street
+        made, whole = maker_of(words.policy, street.scenario), fitted(volumes, street)
+        for line in balance.doubts(whole):
+            say("cosim", line)
+        return queue_study.run(program, whole, street.scenario, asked, advance, made), street
     finally:
         if shown is not None:
             shown.close()

@@ -107,7 +107,7 @@ class CabinetNumbers:
             match order:
                 case ClockNamed(ticks) if self.cabinet.clock.named(ticks, tick):
                     self.mark(tick, CLOCK, f"clock set to {ticks}")
-                case Requested(number, departure):
+                case Requested(number=number, departure=departure):
                     self.mark(tick, PRIORITY, f"priority request {number}, departure in {departure} ticks")
                 case Cancelled(number):
                     self.mark(tick, PRIORITY, f"priority request {number} cancelled")
