@@ -22,6 +22,7 @@ from .files import Files, study_file
 from .journal import Journal
 from .one_run import Outcome
 from .prepared import Keys, Prepared, hash_of, modules, prepared
+from .variants import Asked
 
 
 @dataclass
@@ -33,7 +34,7 @@ class Sweep:
     ready: Prepared
     keys: Keys
 
-    def pending(self, journal: Journal) -> Iterator[tuple[int, str]]:
+    def pending(self, journal: Journal) -> Iterator[tuple[Asked, str]]:
         """Yields the runs that aren't done."""
         for index in range(self.ready.variants.count()):
             key = self.keys.of(self.ready.variants.at(index))

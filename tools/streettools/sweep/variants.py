@@ -2,20 +2,39 @@
 sample, each seed."""
 
 import math
-from dataclasses import dataclass
-from typing import Any
+from dataclasses import dataclass, replace
+from typing import Any, NamedTuple
 
 from .study import Study
 from .values import Kind, Option
 
+Cells = tuple[tuple[int, tuple[Any, ...]], ...]
+"""Cells with their values, each with the number of its cabinet."""
+
+
+class Place(NamedTuple):
+    """A variant that isn't only a place of the grid: what is put after its values, and the scenario that is run as it
+    is, without the values of parameters: "" for the study's own base, else the name of its file. It goes to the workers
+    as a plain tuple."""
+
+    index: int
+    cells: Cells = ()
+    base: str | None = None
+
+
+Asked = int | tuple[int, Cells, str | None]
+"""Which variant is run: its place in the grid, or a `Place`."""
+
 
 @dataclass(frozen=True)
 class Variant:
-    """A variant: its place from 0 on, the value of each parameter in the study's order, and the seed."""
+    """A variant: its place from 0 on, the value of each parameter in the study's order, the seed, and cells that are
+    put after the values."""
 
     index: int
     values: tuple[Any, ...]
     seed: int | None
+    cells: Cells = ()
 
     def shown(self) -> list[Any]:
         """Returns the values as the table shows them."""
@@ -49,3 +68,12 @@ class Variants:
             else:
                 values.append(it.values.at(places.pop()))
         return Variant(index, tuple(values), self.seeds[seed])
+
+    def of(self, asked: Asked) -> Variant:
+        """Returns a variant by its place in the grid, or by a `Place`."""
+        if isinstance(asked, int):
+            return self.at(asked)
+        index, cells, base = asked
+        if base is None:
+            return replace(self.at(index), cells=cells)
+        return Variant(index, (Option("", (), base or None),), self.seeds[index % len(self.seeds)], cells)
