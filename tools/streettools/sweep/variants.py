@@ -3,7 +3,7 @@ sample, each seed."""
 
 import math
 from dataclasses import dataclass, replace
-from typing import Any, NamedTuple
+from typing import Any
 
 from .study import Study
 from .values import Kind, Option
@@ -12,18 +12,12 @@ Cells = tuple[tuple[int, tuple[Any, ...]], ...]
 """Cells with their values, each with the number of its cabinet."""
 
 
-class Place(NamedTuple):
-    """A variant that isn't only a place of the grid: what is put after its values, and the scenario that is run as it
-    is, without the values of parameters: "" for the study's own base, else the name of its file. It goes to the workers
-    as a plain tuple."""
-
-    index: int
-    cells: Cells = ()
-    base: str | None = None
-
-
-Asked = int | tuple[int, Cells, str | None]
-"""Which variant is run: its place in the grid, or a `Place`."""
+Placed = tuple[int, Cells, str | None]
+"""A variant that isn't only a place of the grid: its place, the cells that are put after its values, and the scenario
+that is run as it is, without the values of parameters: None for the variant's own, "" for the study's base, else the
+name of a file."""
+Asked = int | Placed
+"""Which variant is run: its place in the grid, or more."""
 
 
 @dataclass(frozen=True)
@@ -70,7 +64,7 @@ class Variants:
         return Variant(index, tuple(values), self.seeds[seed])
 
     def of(self, asked: Asked) -> Variant:
-        """Returns a variant by its place in the grid, or by a `Place`."""
+        """Returns a variant by its place in the grid, or by more."""
         if isinstance(asked, int):
             return self.at(asked)
         index, cells, base = asked

@@ -113,8 +113,7 @@ def ended(words: argparse.Namespace, search: Opened, journal: Journal, begun: fl
                       Runs(search.keys, journal, engine, progress.advance))  # fmt: skip
         tries.tell = lambda: progress.tell(tries)
         try:
-            task = {"study": search.document, "files": search.files.read, "check": words.check, "seconds": words.timeout}
-            crew.carry(task, modules(), search.ready.builder.program)
+            crew.carry(task_of(words, search), modules(), search.ready.builder.program)
             searched(search, tries)
             progress.close()
             best = best_of(search, tries)
@@ -128,6 +127,13 @@ def ended(words: argparse.Namespace, search: Opened, journal: Journal, begun: fl
     is_failed = tries.outcomes()[Outcome.FAILED] > 0
     journal.close(remove=not words.keep and not is_failed)
     return Status.UNFINISHED if is_failed else Status.DONE
+
+
+def task_of(words: argparse.Namespace, search: Opened) -> dict[str, Any]:
+    """Returns what the workers are given."""
+    return {
+        "study": search.document, "files": search.files.read, "check": words.check, "seconds": words.timeout,
+    }  # fmt: skip
 
 
 def comparison(search: Opened, tries: Tries, best: Try) -> held.Comparison | None:
@@ -146,8 +152,9 @@ def write(
     folder: Path = words.output
     ending.write_table(search, tries.all, folder)
     ending.write_plan(search, search.ready.builder.document(search.ready.variants.of(best.runs[0]))["scenario"], folder)
-    plans = [("present plan", tries.present.runs[0])] if tries.present is not None and tries.present is not best else []
-    plans.append((f"best plan: {ending.values_of(search, best)}", best.runs[0]))
+    present = [] if tries.present in (None, best) else [tries.present]
+    titles = ["present plan"] * len(present) + [f"best plan: {ending.values_of(search, best)}"]
+    plans = [(title, it.runs[0]) for title, it in zip(titles, (*present, best)) if it is not None]
     ending.draw(search, search.ready.runner(False, words.timeout), plans, folder / ending.PICTURE)
     if found is None:
         for name in (ending.COMPARISON_TEXT, ending.COMPARISON_JSON):

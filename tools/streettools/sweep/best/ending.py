@@ -10,17 +10,19 @@ from ...look.called import Called
 from ...plan.reading import Street
 from ...plan.sources import Source
 from ...shared import files
+from ...shared.cells import tables_of
 from ...shared.saying import say
-from ...shared.tables import Tables
-from .. import queued, table
+from .. import bands, queued, table
 from ..one_run import Runner, kept
-from ..variants import Asked, Variant
+from ..variants import Placed, Variant
 from . import picture, sheet
 from .opened import Opened
 from .tries import Try
 
 TABLE, SCENARIO, SHEET, PICTURE = "tries.csv", "best.json", "best.toml", "best.svg"
 COMPARISON_TEXT, COMPARISON_JSON = "comparison.txt", "comparison.json"
+USUAL_CYCLE = 100
+"""Seconds, for the picture of a street without a cycle."""
 NAMES = (TABLE, SCENARIO, SHEET, PICTURE, COMPARISON_TEXT, COMPARISON_JSON)
 
 
@@ -46,7 +48,8 @@ def values_of(search: Opened, it: Try) -> str:
     if it.places is None:
         return "the present plan"
     shown = search.space.variant(it.places).shown()
-    return ", ".join(f"{parameter.name} {value}" for parameter, value in zip(search.ready.study.parameters, shown))
+    named = (f"{parameter.name} {value}" for parameter, value in zip(search.ready.study.parameters, shown))
+    return ", ".join(named) + (" (repaired)" if it.is_repaired else "")
 
 
 def trace_of(search: Opened, runner: Runner, variant: Variant) -> bytes:
@@ -61,20 +64,32 @@ def trace_of(search: Opened, runner: Runner, variant: Variant) -> bytes:
         return trace.read()
 
 
-def draw(search: Opened, runner: Runner, plans: list[tuple[str, Asked]], path: Path) -> None:
-    """Draws the present plan and the best one."""
-    variants = [search.ready.variants.of(asked) for _, asked in plans]
-    street = search.ready.builder.built(variants[-1]).street
-    scenario = search.ready.builder.document(variants[-1])["scenario"]
-    rows = enumerate(scenario["cabinets"], 1)
-    section = street.section if street else 1
-    numbers = [number for number, it in rows if street is None or it.get("section", 1) == section] or [1]
-    tables = Tables(*(scenario["cabinets"][numbers[0] - 1].get(name, usual) for name, usual in (("base", "std8"), ("cells", ()))))
-    cycle = tables.pattern(street.pattern if street else scenario["cabinets"][numbers[0] - 1].get("pattern", 1), 2) or 100
-    drawn = [picture.Drawn(title, trace_of(search, runner, it)) for (title, _), it in zip(plans, variants, strict=True)]
+def drawn_of(search: Opened, runner: Runner, title: str, variant: Variant) -> picture.Drawn:
+    """Returns a plan as it is drawn."""
+    built = search.ready.builder.built(variant)
+    widest = bands.widest(runner.program, built.scenario, built.street, runner.seconds) if built.street else None
+    return picture.Drawn(title, trace_of(search, runner, variant), widest)
+
+
+def street_of(search: Opened, variant: Variant) -> picture.Street:
+    """Returns the street that is drawn: that of the study's bands, else all cabinets."""
+    built = search.ready.builder.built(variant)
+    cabinets, street = built.scenario["cabinets"], built.street
+    rows = list(enumerate(cabinets, 1))
+    own = [number for number, it in rows if street is None or it.get("section", 1) == street.section]
+    numbers = own or [number for number, _ in rows]
     travel = list(street.travel) if street and len(street.travel) == len(numbers) - 1 else None
-    span = picture.window(10 * cycle, scenario["rounds"] * scenario["ticks"])
-    picture.draw(drawn, numbers, travel, span, Called(search.names()), str(path))
+    first = cabinets[numbers[0] - 1]
+    cycle = tables_of(first).pattern(street.pattern if street else first.get("pattern", 1), 2) or USUAL_CYCLE
+    span = picture.window(10 * cycle, built.scenario["rounds"] * built.scenario["ticks"])
+    return picture.Street(numbers, travel, span, Called(search.names()))
+
+
+def draw(search: Opened, runner: Runner, plans: list[tuple[str, Placed]], path: Path) -> None:
+    """Draws plans with their titles: the present one and the best one."""
+    variants = [(title, search.ready.variants.of(asked)) for title, asked in plans]
+    drawn = [drawn_of(search, runner, *it) for it in variants]
+    picture.draw(drawn, street_of(search, variants[-1][1]), str(path))
 
 
 def write_plan(search: Opened, scenario: dict[str, Any], folder: Path) -> None:

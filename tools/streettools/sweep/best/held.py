@@ -46,12 +46,17 @@ def held_rows(wanted: Wanted, runs: Runs, its: Try) -> list[list[Any]]:
     if not wanted.held_back:
         return its.rows
     first = len(wanted.seeds)
-    asked = [(index + first + it, *rest) for index, *rest in its.runs[:1] for it in range(len(wanted.held_back))]
+    index, cells, base = its.runs[0]
+    asked = [(index + first + it, cells, base) for it in range(len(wanted.held_back))]
     return runs.done([(it, runs.key(it)) for it in asked])
 
 
-def compared(wanted: Wanted, goal: Goal, names: list[str], present: list[list[Any]], best: list[list[Any]]) -> Comparison:
-    """Returns the comparison of two plans by their results, seed by seed."""
+Rows = list[list[Any]]
+"""The results of the runs of a plan, seed by seed."""
+
+
+def compared(wanted: Wanted, goal: Goal, names: list[str], present: Rows, best: Rows) -> Comparison:
+    """Returns the comparison of two plans by their results."""
     columns = [(GOAL, [goal.of(it) for it in present], [goal.of(it) for it in best])]
     for place, name in enumerate(names, MEASURES):
         columns.append((name, [number(it[place]) for it in present], [number(it[place]) for it in best]))
@@ -92,7 +97,8 @@ def sentence(found: Comparison) -> str:
     half = more.half or 0.0
     over = f"at 95 % over {len(found.seeds)} seeds"
     if verdict(more) == SAME:
-        return f"the best plan: no real difference in the goal ({more.value - half:+.2f} to {more.value + half:+.2f} {over})"
+        span = f"{more.value - half:+.2f} to {more.value + half:+.2f}"
+        return f"the best plan: no real difference in the goal ({span} {over})"
     low, high = sorted((abs(more.value) - half, abs(more.value) + half))
     return f"the best plan: the goal is {abs(more.value):.2f} {verdict(more)} ({low:.2f} to {high:.2f} {over})"
 

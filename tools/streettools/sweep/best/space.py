@@ -8,7 +8,7 @@ from ..prepared import Prepared
 from ..study import Parameter
 from ..targets import Put, followed, steps
 from ..values import Kind
-from ..variants import Cells, Place, Variant
+from ..variants import Cells, Placed, Variant
 
 Places = tuple[int, ...]
 """A plan: the place of each parameter's value, from 0 on."""
@@ -20,12 +20,12 @@ class Space:
     def __init__(self, ready: Prepared) -> None:
         self.ready, self.counts = ready, ready.variants.grid
 
-    def place(self, places: Places, seed: int, cells: Cells = ()) -> Place:
+    def place(self, places: Places, seed: int, cells: Cells = ()) -> Placed:
         """Returns the run of a plan with the seed at a place of the study's seeds."""
         index = 0
         for place, count in zip(places, self.counts, strict=True):
             index = index * count + place
-        return Place(index * len(self.ready.variants.seeds) + seed, cells)
+        return index * len(self.ready.variants.seeds) + seed, cells, None
 
     def variant(self, places: Places, cells: Cells = ()) -> Variant:
         """Returns the variant of a plan with the first seed."""
@@ -46,8 +46,10 @@ class Space:
         now = there(parameter.puts[0], scenario)
         if now in listed:
             return listed.index(now)
-        numbers = all(isinstance(it, (int, float)) for it in (now, *listed))
-        return min(range(len(listed)), key=lambda it: abs(listed[it] - now)) if numbers else 0
+        if not all(isinstance(it, (int, float)) for it in (now, *listed)):
+            return 0
+        away = [float(abs(it - now)) for it in listed]
+        return away.index(min(away))
 
 
 def there(put: Put, scenario: dict[str, Any]) -> Any:

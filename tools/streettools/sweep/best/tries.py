@@ -10,7 +10,7 @@ from ..engine import Engine
 from ..journal import Journal
 from ..one_run import Outcome
 from ..prepared import Keys
-from ..variants import Asked, Place
+from ..variants import Asked, Placed
 from .goal import Goal
 from .plans import Kept, Rules, Unfit
 from .search import Over
@@ -28,7 +28,7 @@ class Try:
 
     number: int
     places: Places | None
-    runs: list[Asked]
+    runs: list[Placed]
     keys: list[str]
     is_repaired: bool = False
     rows: list[list[Any]] = field(default_factory=list)
@@ -45,7 +45,7 @@ class Runs:
         """Returns the key of a run."""
         return self.keys.of(self.keys.prepared.variants.of(asked))
 
-    def done(self, runs: list[tuple[Asked, str]]) -> list[list[Any]]:
+    def done(self, runs: list[tuple[Placed, str]]) -> list[list[Any]]:
         """Returns the results of runs with their keys."""
         pending = [it for it in runs if it[1] not in self.journal]
         self.advance(len(runs) - len(pending))
@@ -71,21 +71,22 @@ class Tries:
 
     def best(self) -> Try | None:
         """Returns the best plan; of equal ones the first."""
-        known = [it for it in self.all if it.value is not None]
-        return min(known, key=lambda it: self.goal.cost(it.value), default=None)
+        costs = [self.goal.cost(it.value) for it in self.all]
+        least = min(costs, default=math.inf)
+        return self.all[costs.index(least)] if least < math.inf else None
 
     def try_present(self) -> None:
         """Runs the present plan, if it keeps the rules."""
         base = self.wanted.present or ""
         try:
-            kept = self.rules.kept(self.space.ready.variants.of(Place(0, (), base)))
+            kept = self.rules.kept(self.space.ready.variants.of((0, (), base)))
         except Unfit as why:
             self.present_unfit = str(why)
             return
         if kept.cells:
             self.present_unfit = "it breaks a rule"
             return
-        self.present = self.added(None, [Place(it, (), base) for it in range(self.wanted.each())])
+        self.present = self.added(None, [(it, (), base) for it in range(self.wanted.each())])
         self.by_identity[kept.identity] = self.present
         self.run([self.present])
 
@@ -105,7 +106,12 @@ class Tries:
         self.run(new)
         if is_over or len(self.by_places) == math.prod(self.space.counts) or not self.all and self.unfit >= MOST_UNFIT:
             raise Over
-        return [self.goal.cost(it.value if (it := self.by_places[plan]) else None) for plan in plans]
+        return [self.cost(it) for it in plans]
+
+    def cost(self, places: Places) -> float:
+        """Returns the cost of a plan that is known; one that is left out costs most."""
+        found = self.by_places[places]
+        return self.goal.cost(found.value if found is not None else None)
 
     def left(self) -> int:
         """Returns how many runs of the budget are left."""
@@ -128,16 +134,16 @@ class Tries:
 
     def fresh(self, places: Places, kept: Kept) -> Try:
         """Returns a plan that wasn't there before."""
-        runs: list[Asked] = [self.space.place(places, it, kept.cells) for it in range(self.wanted.each())]
+        runs = [self.space.place(places, it, kept.cells) for it in range(self.wanted.each())]
         found = self.added(places, runs)
         found.is_repaired = bool(kept.cells)
         self.repaired += found.is_repaired
         self.by_places[places] = self.by_identity[kept.identity] = found
         return found
 
-    def added(self, places: Places | None, runs: list[Asked]) -> Try:
+    def added(self, places: Places | None, runs: list[Placed]) -> Try:
         """Adds a plan, whose runs are taken off the budget."""
-        found = Try(len(self.all) + 1, places, [tuple(it) for it in runs], [self.runs.key(it) for it in runs])
+        found = Try(len(self.all) + 1, places, runs, [self.runs.key(it) for it in runs])
         self.all.append(found)
         self.spent += len(runs)
         return found

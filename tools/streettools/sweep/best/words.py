@@ -26,7 +26,9 @@ def parser() -> argparse.ArgumentParser:
     words.add_argument("study", help="the study's file, in TOML, with the table [best]; - is standard input")
     add_output(words, "the folder for all results", type=Path, metavar="FOLDER", required=True)
     before = words.add_mutually_exclusive_group()
-    before.add_argument("--resume", action="store_true", help="continue an earlier search: keep the runs that it has done")
+    before.add_argument(
+        "--resume", action="store_true", help="continue an earlier search: keep the runs that it has done"
+    )
     before.add_argument("--anew", action="store_true", help="discard the runs of an earlier search")
     words.add_argument("--keep", action="store_true", help="keep the file of the runs when the search is done")
     words.add_argument("--check", action="store_true", help="check each trace")
