@@ -55,7 +55,7 @@ def searched(search: Opened, tries: Tries) -> None:
     try:
         tries.try_present()
         base = search.ready.builder.read(search.wanted.present, None)
-        lines(tries.costs, counts, search.space.nearest(base))
+        lines(tries.costs, counts, search.space.moves(), search.space.nearest(base))
         while True:
             best = tries.best()
             known = len(tries.by_places)

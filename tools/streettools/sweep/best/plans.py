@@ -9,7 +9,7 @@ from typing import Any
 
 from ...plan import fix, rules
 from ...plan.names import Names
-from ...shared.cells import cells_between, put, tables_of, value
+from ...shared.cells import cells_between, put, tables_of, unset, value
 from ...shared.fault import Fault
 from ...shared.tables import Tables
 from ..building import SHARED, Builder
@@ -92,7 +92,7 @@ class Rules:
         if broken:
             raise Unfit(f"cabinet {number} breaks rule {broken[0].rule} at row {broken[0].row}")
         cells = tuple(tuple(it) for it in cells_between(before, tables))
-        return Mended(cells, repr(sorted(map(repr, tables.cells.items()))))
+        return Mended(cells, repr(sorted((cell, it) for cell, it in tables.cells.items() if it != unset(cell))))
 
 
 def wrap(tables: Tables, pattern: int) -> None:

@@ -13,6 +13,9 @@ Costs = Callable[[list[Places]], list[float]]
 POPULATION = 8
 """Plans of a generation for each parameter."""
 LEAST_PLANS = 16
+"""Plans of a small generation."""
+STEPS, NARROWER = 12, 3
+"""Into how many steps a range is divided, and how much narrower it is in the next round."""
 
 
 class Over(Exception):
@@ -20,39 +23,60 @@ class Over(Exception):
 
 
 def evolved(costs: Costs, counts: Sequence[int], start: Places, seed: int) -> None:
-    """Runs scipy's differential evolution until it raises `Over`, or until its plans are alike."""
+    """Runs scipy's differential evolution from a plan until it raises `Over`, or until its plans are alike. Parameters
+    of one value are left to it as they are."""
     import numpy as np
     from scipy.optimize import differential_evolution
 
-    def generation(many: Any) -> Any:
-        found = [tuple(int(round(it)) for it in plan) for plan in np.atleast_2d(many.T)]
-        return np.array(costs(found))
+    free = [place for place, count in enumerate(counts) if count > 1]
+    if not free:
+        return
 
-    size = max(LEAST_PLANS, POPULATION * len(counts)) / len(counts)
+    def plan_of(values: Any) -> Places:
+        plan = list(start)
+        for place, it in zip(free, values):
+            plan[place] = round(float(it))
+        return tuple(plan)
+
+    def generation(many: Any) -> Any:
+        return np.array(costs([plan_of(it) for it in np.atleast_2d(many.T)]))
+
+    size = max(LEAST_PLANS, POPULATION * len(free)) / len(free)
     with warnings.catch_warnings():
         warnings.simplefilter("ignore")
         differential_evolution(
-            generation, [(0, it - 1) for it in counts], x0=start, seed=seed, integrality=np.full(len(counts), True),
-            popsize=math.ceil(size), maxiter=10**6, polish=False, vectorized=True, updating="deferred",
+            generation, [(0, counts[it] - 1) for it in free], x0=[start[it] for it in free], seed=seed,
+            integrality=np.full(len(free), True), popsize=math.ceil(size), maxiter=10**6, polish=False, vectorized=True,
+            updating="deferred",
         )  # fmt: skip
 
 
-def lines(costs: Costs, counts: Sequence[int], start: Places, most: int = 12) -> Places:
-    """Improves a plan parameter by parameter: tries values at equal distances, first over the whole range, then ever
-    nearer to the best, and goes round until nothing improves."""
+def line(best: Places, moved: Sequence[int], width: int, count: int) -> list[Places]:
+    """Returns plans in which some parameters are moved together: by equal steps, half of the width to each side. Values
+    go round, as offsets do: the first follows the last."""
+    half, step = width // 2, max(1, width // STEPS)
+    found = {}
+    for shift in range(-half, half + 1, step):
+        plan = list(best)
+        for place in moved:
+            plan[place] = (plan[place] + shift) % count
+        found[tuple(plan)] = None
+    return list(found)
+
+
+def lines(costs: Costs, counts: Sequence[int], moves: Sequence[Sequence[int]], start: Places) -> None:
+    """Improves a plan move by move: tries steps over the whole range of each, then ever nearer to the best, and goes
+    round until nothing improves, or until it raises `Over`. A move is the places of parameters of one count."""
     best, at = start, costs([start])[0]
-    width = [it for it in counts]
+    widths = [counts[it[0]] for it in moves]
     while True:
         before = at
-        for place, count in enumerate(counts):
-            step = max(1, width[place] // most)
-            half = width[place] // 2
-            values = sorted({(best[place] + it) % count for it in range(-half, half + 1, step)})
-            plans = [(*best[:place], it, *best[place + 1 :]) for it in values]
+        for moved, width in zip(moves, widths):
+            plans = line(best, moved, width, counts[moved[0]])
             found = costs(plans)
-            low = min(range(len(found)), key=found.__getitem__)
-            if found[low] < at:
-                best, at = plans[low], found[low]
-        if all(it <= most for it in width) and at == before:
-            return best
-        width = [max(min(count, most), it // 3) if it > most else it for it, count in zip(width, counts)]
+            if min(found) < at:
+                at = min(found)
+                best = plans[found.index(at)]
+        if all(it <= STEPS for it in widths) and at == before:
+            return
+        widths = [max(min(counts[moved[0]], STEPS), it // NARROWER) for moved, it in zip(moves, widths)]

@@ -1,5 +1,6 @@
 """The plans among which a search looks: for each parameter of the study the place of its value."""
 
+from dataclasses import replace
 from typing import Any
 
 from ...shared.cells import tables_of, value
@@ -7,9 +8,11 @@ from ...shared.fault import Fault
 from ..prepared import Prepared
 from ..study import Parameter
 from ..targets import Put, followed, steps
-from ..values import Kind
+from ..values import Kind, Values
 from ..variants import Cells, Placed, Variant
 
+OFFSET = ("pattern", 3)
+"""The table and the column of offsets."""
 Places = tuple[int, ...]
 """A plan: the place of each parameter's value, from 0 on."""
 
@@ -31,6 +34,16 @@ class Space:
         """Returns the variant of a plan with the first seed."""
         return self.ready.variants.of(self.place(places, 0, cells))
 
+    def moves(self) -> list[list[int]]:
+        """Returns what a search moves together: each parameter, and each offset with those that follow it. Along a
+        street the second changes only one of the times between two neighbours."""
+        offsets: dict[Values, list[int]] = {}
+        for place, it in enumerate(self.ready.study.parameters):
+            if is_offset(it):
+                offsets.setdefault(replace(it.values, name=""), []).append(place)
+        together = [places[at:] for places in offsets.values() for at in range(len(places) - 1)]
+        return [*together, *([place] for place in range(len(self.counts)))]
+
     def nearest(self, scenario: dict[str, Any]) -> Places:
         """Returns the plan that is nearest to that of a scenario, parameter by parameter; the first value where a
         parameter has no number or nothing equal there."""
@@ -50,6 +63,12 @@ class Space:
             return 0
         away = [float(abs(it - now)) for it in listed]
         return away.index(min(away))
+
+
+def is_offset(parameter: Parameter) -> bool:
+    """Tells whether a parameter is the offset of a pattern."""
+    cells = [it.cell for it in parameter.puts]
+    return bool(cells) and all(it is not None and (it[0], it[-1]) == OFFSET for it in cells)
 
 
 def there(put: Put, scenario: dict[str, Any]) -> Any:

@@ -17,8 +17,8 @@ from .search import Over
 from .space import Places, Space
 from .wanted import Wanted
 
-MOST_UNFIT = 20_000
-"""How many plans may be left out before the first that keeps the rules."""
+MOST_UNFIT, MOST_IDLE = 2000, 500
+"""How many plans may be left out, and how many generations may have no new plan, one after another."""
 
 
 @dataclass
@@ -63,7 +63,9 @@ class Tries:
         self.by_places: dict[Places, Try | None] = {}
         """Plans by their places; None for those that are left out."""
         self.by_identity: dict[str, Try] = {}
-        self.repaired, self.unfit, self.equal, self.spent = 0, 0, 0, 0
+        self.repaired, self.unfit, self.spent = 0, 0, 0
+        self.unfit_now, self.idle = 0, 0
+        """Plans that were left out since the last that wasn't, and generations since the last with a new plan."""
         self.first_unfit: tuple[Places, str] | None = None
         self.present: Try | None = None
         self.present_unfit = ""
@@ -94,7 +96,7 @@ class Tries:
         """Returns the costs of a generation. Its new plans are run, in order, as far as the budget goes; then `Over` is
         raised."""
         new: list[Try] = []
-        is_over = False
+        is_over, known = False, len(self.by_places)
         for it in plans:
             if it in self.by_places:
                 continue
@@ -104,7 +106,8 @@ class Tries:
             if (made := self.made(it)) is not None:
                 new.append(made)
         self.run(new)
-        if is_over or len(self.by_places) == math.prod(self.space.counts) or not self.all and self.unfit >= MOST_UNFIT:
+        self.idle = 0 if len(self.by_places) > known else self.idle + 1
+        if is_over or self.is_over():
             raise Over
         return [self.cost(it) for it in plans]
 
@@ -112,6 +115,11 @@ class Tries:
         """Returns the cost of a plan that is known; one that is left out costs most."""
         found = self.by_places[places]
         return self.goal.cost(found.value if found is not None else None)
+
+    def is_over(self) -> bool:
+        """Tells whether no plan is left, or none is found any more."""
+        is_whole = len(self.by_places) == math.prod(self.space.counts)
+        return is_whole or self.unfit_now >= MOST_UNFIT or self.idle >= MOST_IDLE
 
     def left(self) -> int:
         """Returns how many runs of the budget are left."""
@@ -122,13 +130,12 @@ class Tries:
         try:
             kept = self.rules.kept(self.space.variant(places))
         except Unfit as why:
-            self.unfit += 1
+            self.unfit, self.unfit_now = self.unfit + 1, self.unfit_now + 1
             self.first_unfit = self.first_unfit or (places, str(why))
             self.by_places[places] = None
             return None
         if (equal := self.by_identity.get(kept.identity)) is not None:
             self.by_places[places] = equal
-            self.equal += 1
             return None
         return self.fresh(places, kept)
 
@@ -136,6 +143,7 @@ class Tries:
         """Returns a plan that wasn't there before."""
         runs = [self.space.place(places, it, kept.cells) for it in range(self.wanted.each())]
         found = self.added(places, runs)
+        self.unfit_now = 0
         found.is_repaired = bool(kept.cells)
         self.repaired += found.is_repaired
         self.by_places[places] = self.by_identity[kept.identity] = found

@@ -95,7 +95,8 @@ def wanted_of(document: dict[str, Any], fetch: Fetch) -> tuple[Wanted, dict[str,
         raise Fault("study: best is missing: the table with the goal and the budget (docs/SWEEP.md)")
     given = Given(document[TABLE], STUDY, TABLE)
     rest = {name: it for name, it in document.items() if name != TABLE}
-    owns = tuple(it["name"] for it in rest.get("own", ()) if isinstance(it, dict) and isinstance(it.get("name"), str))
+    own = rest.get("own")
+    owns = tuple(str(it.get("name")) for it in own if isinstance(it, dict)) if isinstance(own, list) else ()
     terms = terms_of(given, owns)
     asked = rest.get("measures", [])
     if isinstance(asked, list):
