@@ -52,6 +52,8 @@ def opened(words: argparse.Namespace) -> Sweep:
     """Reads the study and makes it ready."""
     path = Path(words.study)
     document, files = study_file(path), Files(path.parent)
+    if "best" in document:
+        raise Fault("study: best is a table of a search, which ./arterial sweep best makes")
     program = found(words.program)
     ready = prepared(document, files, program)
     return Sweep(document, files, ready, ready.key(hash_of(modules()), hash_of(program.read_bytes()), words.check))
