@@ -55,32 +55,30 @@ values = [2, 3, 4]
 """
 TWO = {"version": 1, "rounds": 60, "ticks": 10, "cabinets": [{"pattern": 1}, {"pattern": 1}]}
 DELAY = """\
-scenario = "hour.json"
+scenario = "half.json"
 from = 300
-seeds = [1]
+seeds = 3
 [volumes]
 file = "volumes.toml"
 [best]
-goal = {{ delay_mean = 1 }}
-budget = {budget}
+goal = { delay_mean = 1 }
+budget = 240
+held_back = 12
 """
 COMPARE = """\
 seeds = {seeds}
-seconds = {seconds}
+seconds = 1800
 step = 1
 warm = 300
 against = "best"
 [[plan]]
 name = "best"
-scenario = "hour.json"
-offsets = {offsets}
+scenario = "{scenario}"
+offsets = {best}
 [[plan]]
-name = "present"
-scenario = "hour.json"
-[[plan]]
-name = "zero"
-scenario = "hour.json"
-offsets = [0, 0, 0, 0]
+name = "other"
+scenario = "{scenario}"
+offsets = {other}
 """
 
 
@@ -142,12 +140,12 @@ def test_the_search_finds_the_bands_that_all_offsets_of_three_cabinets_have(tmp_
 
 @pytest.fixture(scope="module")
 def street(tmp_path_factory, program):
-    """A folder with the street of four for an hour, and a search for its offsets."""
+    """A folder with the street of four for half an hour, and a search for its offsets."""
     folder = tmp_path_factory.mktemp("street")
-    scenario = json.loads((TOP / "scenarios/street.json").read_text()) | {"rounds": 3600}
-    (folder / "hour.json").write_text(json.dumps(scenario))
+    scenario = json.loads((TOP / "scenarios/street.json").read_text()) | {"rounds": 1800}
+    (folder / "half.json").write_text(json.dumps(scenario))
     shutil.copy(TOP / "scenarios/street.volumes.toml", folder / "volumes.toml")
-    study = DELAY.format(budget=120) + "".join(OFFSET.format(it, 89, 1) for it in (2, 3, 4))
+    study = DELAY + "".join(OFFSET.format(it, 89, 1) for it in (2, 3, 4))
     status, out, said = best(folder, study)
     assert status == 0, said
     return folder
@@ -160,48 +158,41 @@ def offsets(scenario):
 
 def test_the_search_beats_the_present_offsets_of_the_street_on_seeds_that_it_did_not_use(street):
     found = json.loads((street / "out/comparison.json").read_text())
-    assert found["seeds"] == list(range(2, 12))
+    assert found["seeds"] == list(range(4, 16))
     row = found["rows"][0]
     value, half = row["more"]
     assert row["differs"] == "less" and value + half < 0
     assert f"the goal is {-value:.2f} less" in (street / "out/comparison.txt").read_text()
-    assert len(table(street)) == 120
+    assert len(table(street)) == 240
 
 
-def compared(folder, text):
-    """Runs a comparison of plans, and returns how many seconds less delay the best one has than each other, with half
-    of the interval."""
-    (folder / "plans.toml").write_text(text)
+def more_delay(folder, head, **names):
+    """Compares the best plan with other offsets; returns how many seconds more delay these have, and half of the
+    interval."""
+    found = offsets(json.loads((folder / "out/best.json").read_text()))
+    (folder / "plans.toml").write_text(head + COMPARE.format(best=found, **names))
     command = ["/usr/bin/python3", "-B", "-m", "streettools", "cosim", "compare", "plans.toml", "-o", "compared",
                "--json", "--workers", "4"]  # fmt: skip
     done = subprocess.run(command, cwd=folder, env=environment(), capture_output=True, text=True, timeout=1200)
     assert done.returncode == 0, done.stderr
     rows = json.loads(done.stdout)["rows"]
-    return {it["plan"]: it["more_delay"] for it in rows if it["group"] == "all vehicles" and it["more_delay"]}
+    return next(it["more_delay"] for it in rows if it["group"] == "all vehicles" and it["plan"] == "other")
 
 
-def plans(folder, seeds, seconds):
-    """Returns a comparison of the best plan, the present one, and all offsets zero."""
-    found = offsets(json.loads((folder / "out/best.json").read_text()))
-    return COMPARE.format(seeds=seeds, seconds=seconds, offsets=found)
+@pytest.mark.parametrize("other", [[0, 20, 40, 60], [0, 0, 0, 0]], ids=["present", "zero"])
+def test_other_offsets_have_more_delay_in_the_model_of_queues_by_cosim_compare(street, other):
+    head = 'volumes = "volumes.toml"\n'
+    value, half = more_delay(street, head, scenario="half.json", other=other, seeds=list(range(101, 111)))
+    assert value - half > 0, (value, half)
 
 
-def test_the_found_offsets_have_less_delay_in_the_model_of_queues_by_cosim_compare(street):
-    found = compared(street, 'volumes = "volumes.toml"\n' + plans(street, list(range(101, 109)), 1800))
-    for plan in ("present", "zero"):
-        value, half = found[plan]
-        assert value - half > 0, (plan, value, half)
-
-
-def test_the_found_offsets_have_less_delay_under_sumo(street):
+def test_offsets_of_zero_have_more_delay_than_the_found_ones_under_sumo(street):
     if shutil.which("sumo") is None:
         pytest.skip("sumo is missing: apt-get install -y sumo sumo-tools")
     where = TOP / "scenarios/sumo/street"
-    files = f'sumo = "{where}/cars.sumocfg"\nmap = "{where}/street.map.toml"\n'
-    found = compared(street, files + plans(street, 6, 1800))
-    for plan in ("present", "zero"):
-        value, half = found[plan]
-        assert value - half > 0, (plan, value, half)
+    head = f'sumo = "{where}/cars.sumocfg"\nmap = "{where}/street.map.toml"\n'
+    value, half = more_delay(street, head, scenario=where / "east.json", other=[0, 0, 0, 0], seeds=3)
+    assert value - half > 0, (value, half)
 
 
 def test_the_table_and_all_other_files_are_the_same_for_1_2_and_4_workers(two):
