@@ -21,7 +21,13 @@ from streettools.shared.cells import tables_of
 from .conftest import TOP, begun, ended, environment, sweep
 
 THREE = {"version": 1, "rounds": 20, "ticks": 10, "cabinets": [{"pattern": 1}, {"pattern": 1}, {"pattern": 1}]}
-OFFSET = '[[vary]]\nname = "offset{0}"\nrange = {{ from = 0, to = {1}, step = {2} }}\ncell = ["pattern", 1, 3]\ncabinet = {0}\n'
+OFFSET = """\
+[[vary]]
+name = "offset{0}"
+range = {{ from = 0, to = {1}, step = {2} }}
+cell = ["pattern", 1, 3]
+cabinet = {0}
+"""
 BANDS = """\
 scenario = "three.json"
 measures = ["band_outbound", "band_inbound"]
@@ -332,8 +338,8 @@ def test_a_study_without_a_plan_that_keeps_the_rules_ends_with_one_line(two, pre
     study = waits(30, present).replace('"two.json"', '"wrong.json"')
     status, out, said = best(two, study)
     assert (status, out) == (2, "")
-    lines = said.splitlines()
-    assert len(lines) == 1 and "no plan of the study keeps the rules" in lines[0] and "cabinet 1 breaks rule" in lines[0]
+    assert len(said.splitlines()) == 1
+    assert "no plan of the study keeps the rules" in said and "cabinet 1 breaks rule" in said
 
 
 def test_a_present_plan_that_breaks_a_rule_is_not_run_and_nothing_is_compared(two):

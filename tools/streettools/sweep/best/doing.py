@@ -9,7 +9,7 @@ from typing import Any
 from ...shared import files
 from ...shared.fault import Fault
 from ...shared.progress import bar
-from ...shared.saying import say
+from ...shared.saying import printed, say
 from ...shared.status import Status
 from ..doing import check, crew_of
 from ..engine import Engine
@@ -164,7 +164,7 @@ def write(
     for name, content in ((ending.COMPARISON_TEXT, text), (ending.COMPARISON_JSON, document)):
         with files.output(folder / name) as out:
             out.write(content)
-    print(document if words.json else text, end="")
+    printed(document if words.json else text)
 
 
 def tell(search: Opened, tries: Tries, best: Try, seconds: float, folder: Path) -> None:

@@ -55,7 +55,7 @@ def line(best: Places, moved: Sequence[int], width: int, count: int) -> list[Pla
     """Returns plans in which some parameters are moved together: by equal steps, half of the width to each side. Values
     go round, as offsets do: the first follows the last."""
     half, step = width // 2, max(1, width // STEPS)
-    found = {}
+    found: dict[Places, None] = {}
     for shift in range(-half, half + 1, step):
         plan = list(best)
         for place in moved:
