@@ -201,11 +201,21 @@ def test_offsets_of_zero_have_more_delay_than_the_found_ones_under_sumo(street):
     assert value - half > 0, (value, half)
 
 
-def test_the_table_and_all_other_files_are_the_same_for_1_2_and_4_workers(two):
-    for workers in (1, 2, 4):
-        status, _, said = best(two, waits(), "--workers", workers, out=f"with{workers}")
-        assert status == 0, said
-    assert texts(two, "with1") == texts(two, "with2") == texts(two, "with4")
+@pytest.fixture(scope="module")
+def whole(tmp_path_factory, program):
+    """The files of a search with one worker that nothing interrupted, with its file of runs."""
+    folder = tmp_path_factory.mktemp("whole")
+    (folder / "two.json").write_text(json.dumps(TWO))
+    status, _, said = best(folder, waits(), "--keep", "--workers", 1)
+    assert status == 0, said
+    return texts(folder, "out")
+
+
+@pytest.mark.parametrize("workers", [2, 4])
+def test_the_table_and_all_other_files_are_the_same_for_any_number_of_workers(two, whole, workers):
+    status, _, said = best(two, waits(), "--workers", workers)
+    assert status == 0, said
+    assert texts(two, "out") == {name: it for name, it in whole.items() if name != "runs"}
 
 
 def test_another_seed_of_the_search_tries_other_plans_and_the_budget_is_spent_exactly(two):
@@ -261,12 +271,10 @@ def test_the_comparison_is_that_of_a_sweep_over_the_held_back_seeds(two):
 
 
 @pytest.mark.parametrize("runs", [1, 20, 55])
-def test_a_search_that_was_interrupted_and_resumed_leaves_the_same_bytes(two, runs):
-    assert best(two, waits(), out="whole")[0] == 0
+def test_a_search_that_was_interrupted_and_resumed_leaves_the_same_bytes(two, whole, runs):
     (two / "best.toml").write_text(waits())
-    command = begun(two, "best", "best.toml", "-o", "cut", "--workers", 2)
-    until = time.monotonic() + 300
-    journal = two / "cut/runs"
+    command = begun(two, "best", "best.toml", "-o", "out", "--keep", "--workers", 2)
+    until, journal = time.monotonic() + 300, two / "out/runs"
     while time.monotonic() < until and not (journal.exists() and journal.read_bytes().count(b"\n") > runs):
         time.sleep(0.002)
     os.kill(command.pid, signal.SIGINT)
@@ -274,20 +282,18 @@ def test_a_search_that_was_interrupted_and_resumed_leaves_the_same_bytes(two, ru
     assert status in (0, 130)
     if status:
         assert "runs are kept" in said
-        assert "use --resume to continue" in sweep(two, "best", "best.toml", "-o", "cut")[2]
-        assert sweep(two, "best", "best.toml", "-o", "cut", "--resume")[0] == 0
-    assert texts(two, "cut") == texts(two, "whole")
+        assert "use --resume to continue" in sweep(two, "best", "best.toml", "-o", "out")[2]
+        assert sweep(two, "best", "best.toml", "-o", "out", "--resume")[0] == 0
+        assert texts(two, "out") == {name: it for name, it in whole.items() if name != "runs"}
 
 
-def test_a_search_continues_from_any_front_of_its_file_of_runs(two):
-    assert best(two, waits(), "--keep", out="whole")[0] == 0
-    whole = texts(two, "whole")
-    runs = whole.pop("runs")
-    for cut in (len(runs) // 3, len(runs) - 5):
-        (two / "cut").mkdir(exist_ok=True)
-        (two / "cut/runs").write_bytes(runs[:cut])
-        assert best(two, waits(), "--resume", out="cut")[0] == 0
-        assert texts(two, "cut") == whole
+@pytest.mark.parametrize("share", [0.3, 0.97])
+def test_a_search_continues_from_any_prefix_of_its_file_of_runs(two, whole, share):
+    runs = whole["runs"]
+    (two / "out").mkdir()
+    (two / "out/runs").write_bytes(runs[: int(share * len(runs))])
+    assert best(two, waits(), "--resume")[0] == 0
+    assert texts(two, "out") == {name: it for name, it in whole.items() if name != "runs"}
 
 
 SPLITS = """\
