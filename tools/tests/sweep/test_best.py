@@ -333,8 +333,9 @@ def test_plans_that_break_rules_are_repaired_or_left_out_and_never_run(two):
 def test_an_offset_beyond_the_cycle_is_the_same_plan_as_that_within_it(two):
     study = SPLITS[: SPLITS.index("[[vary]]")] + OFFSET.format(2, 120, 30)
     assert best(two, study)[0] == 0
-    # offsets 0 (the present plan), 30, 60, 90 = 0, 120 = 30
-    assert [it["offset2"] for it in table(two)] == ["", "30", "60"]
+    # 0 is the present plan, and 90 the same; 120 is the same as 30
+    tried = [it["offset2"] for it in table(two)]
+    assert tried[0] == "" and sorted(int(it) % 90 for it in tried[1:]) == [30, 60]
 
 
 @pytest.mark.parametrize("present", ["", 'present = "wrong.json"'])
