@@ -40,7 +40,7 @@ class Goal:
             if not values:
                 return None
             total += worst(values)
-        return total if math.isfinite(total) else None
+        return round(total, 9) if math.isfinite(total) else None
 
     def cost(self, value: float | None) -> float:
         """Returns what the search makes as low as possible."""
