@@ -197,18 +197,10 @@ def left_out(corners):
     return "; ".join(f"cabinet {number} {words}" for number, words in told if words)
 
 
-def draw(corners, travel, path, plan=None, began=None):
-    """Draws the time-space diagram and writes it; `travel` has the ticks from each cabinet to the next, or is None, and
-    `plan` a plan's widest bands, outbound and inbound."""
+def draw_street(axes, corners, travel, labels, plan=None):
+    """Draws the cabinets of a street on some axes, with the bands if `travel` is known, and returns the entries of the
+    legend."""
     start, end = corners[0].start, corners[0].end
-    tall = 1.5 + 0.85 * len(corners)
-    title = f"Coordinated greens, ticks {start} to {end}: above each line outbound (ring 1), below it inbound (ring 2)"
-    if corners[0].names.title():
-        title = f"{corners[0].names.title()}: {title[0].lower()}{title[1:]}"
-    aways = list(accumulate(travel or [0] * (len(corners) - 1), initial=0))
-    labels = [it.name() + (f"\n{away / 10:g} s away" if away else "") for it, away in zip(corners, aways)]
-    drawn, (axes,) = pictures.figure(tall, title, under=left_out(corners), labels=labels)
-    pictures.time_axis(axes, start, end, began)
     even = not travel or not sum(travel) or min(travel) * len(travel) < 0.6 * sum(travel)
     heights = list(range(len(corners))) if even else list(accumulate(travel, initial=0))
     spacing = 1 if even else min(travel)
@@ -232,5 +224,21 @@ def draw(corners, travel, path, plan=None, began=None):
     axes.set_yticks(heights, [pictures.escaped(it) for it in labels])
     axes.tick_params(axis="y", length=0)
     axes.spines["left"].set_visible(False)
+    return keys
+
+
+def draw(corners, travel, path, plan=None, began=None):
+    """Draws the time-space diagram and writes it; `travel` has the ticks from each cabinet to the next, or is None, and
+    `plan` a plan's widest bands, outbound and inbound."""
+    start, end = corners[0].start, corners[0].end
+    tall = 1.5 + 0.85 * len(corners)
+    title = f"Coordinated greens, ticks {start} to {end}: above each line outbound (ring 1), below it inbound (ring 2)"
+    if corners[0].names.title():
+        title = f"{corners[0].names.title()}: {title[0].lower()}{title[1:]}"
+    aways = list(accumulate(travel or [0] * (len(corners) - 1), initial=0))
+    labels = [it.name() + (f"\n{away / 10:g} s away" if away else "") for it, away in zip(corners, aways)]
+    drawn, (axes,) = pictures.figure(tall, title, under=left_out(corners), labels=labels)
+    pictures.time_axis(axes, start, end, began)
+    keys = draw_street(axes, corners, travel, labels, plan)
     pictures.legend(drawn, keys)
     pictures.save(drawn, path)

@@ -20,7 +20,7 @@ MODULES = {
     "look": ["look.words"],
     "why": ["why.command"],
     "plan": ["plan.command"],
-    "sweep": ["sweep.words", "sweep.given_trace", "sweep.draw"],
+    "sweep": ["sweep.words", "sweep.best.words", "sweep.given_trace", "sweep.draw"],
     "cosim": [f"cosim.{module}" for module, _ in COSIM.values()],
     "street": ["street.words"],
     "cabinet": ["cabinet.command"],

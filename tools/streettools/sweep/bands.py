@@ -5,7 +5,7 @@ import json
 from pathlib import Path
 from typing import Any
 
-from ..shared.bands import Spans, common, delays_of, read_bands
+from ..shared.bands import Band, Spans, common, delays_of, read_bands
 from ..shared.cabinet import Cabinet
 from ..shared.program import ran
 from .counts import Spread, StreetCounts
@@ -15,20 +15,26 @@ ASKED = ("version", "rounds", "ticks", "cabinets")
 
 
 @functools.lru_cache(maxsize=1024)
-def asked(program: Path, question: str, seconds: float) -> tuple[int | None, int | None]:
-    """Returns the widths of the widest bands of a plan, outbound and inbound: 0 if there isn't one, None if the program
-    can't say."""
+def told(program: Path, question: str, seconds: float) -> list[Band | None] | None:
+    """Returns the widest bands of a plan, outbound and inbound, each None if there is none; None if the program can't
+    say."""
     answer = ran(program, "band", given=question.encode(), seconds=seconds)
-    found = read_bands(answer.out.decode(errors="replace")) if answer.status == 0 else None
-    outbound, inbound = (it.width if it else 0 for it in found) if found else (None, None)
-    return outbound, inbound
+    return read_bands(answer.out.decode(errors="replace")) if answer.status == 0 else None
+
+
+def widest(program: Path, scenario: dict[str, Any], street: Street, seconds: float) -> list[Band | None] | None:
+    """Returns the widest bands of a variant's plan, as `told` does."""
+    short = {name: scenario[name] for name in ASKED if name in scenario}
+    question = {"scenario": short, "section": street.section, "pattern": street.pattern, "travel": street.travel}
+    return told(program, json.dumps(question), seconds)
 
 
 def planned(program: Path, scenario: dict[str, Any], street: Street, seconds: float) -> tuple[int | None, int | None]:
-    """Returns the widths of the bands of a variant's plan, in ticks."""
-    short = {name: scenario[name] for name in ASKED if name in scenario}
-    question = {"scenario": short, "section": street.section, "pattern": street.pattern, "travel": street.travel}
-    return asked(program, json.dumps(question), seconds)
+    """Returns the widths of the bands of a variant's plan, in ticks: 0 if there isn't one, None if the program can't
+    say."""
+    found = widest(program, scenario, street, seconds)
+    outbound, inbound = (it.width if it else 0 for it in found) if found else (None, None)
+    return outbound, inbound
 
 
 class Greens:

@@ -94,6 +94,9 @@ class Builder:
             puts = value.puts if isinstance(value, Option) else [(it, value) for it in parameter.puts]
             for put, what in puts:
                 put.put(document, what)
+        for number, cell in variant.cells:
+            it = scenario["cabinets"][number - 1]
+            it["cells"] = [*it.get("cells", ()), list(cell)]
         return document
 
     def built(self, variant: Variant) -> Built:

@@ -13,6 +13,7 @@ from ..shared.fault import Fault
 from ..shared.status import Status
 from .carried import Parcel
 from .crew import Crew, Lost, Rows
+from .variants import Asked
 
 PACKAGES = "python3-dask python3-distributed python3-cryptography"
 ANSWER = 15
@@ -81,8 +82,8 @@ class Dask(Crew):
         except (OSError, TimeoutError, ValueError):
             raise self.gone() from None
 
-    def submit(self, indexes: list[int], over: Callable[[Any], object]) -> Any:
-        key = f"{self.name}-{indexes[0]}-{secrets.token_hex(4)}"
+    def submit(self, indexes: list[Asked], over: Callable[[Any], object]) -> Any:
+        key = f"{self.name}-{secrets.token_hex(8)}"
         made = self.client.submit(self.task, self.name, indexes, pure=False, key=key)
         self.waits(made, over)
         return made

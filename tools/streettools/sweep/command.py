@@ -14,6 +14,10 @@ def main(given: list[str]) -> int:
         from .draw import main as draw
 
         return draw(given[1:])
+    if given[:1] == ["best"]:
+        from .best.command import main as best
+
+        return best(given[1:])
     if given == ["measures"]:
         from .listing import list_measures
 

@@ -8,6 +8,7 @@ from pathlib import Path
 from typing import Any
 
 from .carried import Parcel
+from .variants import Asked
 
 Rows = list[list[Any]]
 TRIES = 4
@@ -45,7 +46,7 @@ class Crew(abc.ABC):
         """Returns how many batches are done at the same time."""
 
     @abc.abstractmethod
-    def submit(self, indexes: list[int], over: Callable[[Any], object]) -> Any:
+    def submit(self, indexes: list[Asked], over: Callable[[Any], object]) -> Any:
         """Sends out the variants with some numbers; returns a ticket, which `over` gets when they are over."""
 
     @abc.abstractmethod

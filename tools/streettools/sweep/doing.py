@@ -22,6 +22,7 @@ from .files import Files, study_file
 from .journal import Journal
 from .one_run import Outcome
 from .prepared import Keys, Prepared, hash_of, modules, prepared
+from .variants import Asked
 
 
 @dataclass
@@ -33,7 +34,7 @@ class Sweep:
     ready: Prepared
     keys: Keys
 
-    def pending(self, journal: Journal) -> Iterator[tuple[int, str]]:
+    def pending(self, journal: Journal) -> Iterator[tuple[Asked, str]]:
         """Yields the runs that aren't done."""
         for index in range(self.ready.variants.count()):
             key = self.keys.of(self.ready.variants.at(index))
@@ -51,6 +52,8 @@ def opened(words: argparse.Namespace) -> Sweep:
     """Reads the study and makes it ready."""
     path = Path(words.study)
     document, files = study_file(path), Files(path.parent)
+    if "best" in document:
+        raise Fault("study: best is a table of a search, which ./arterial sweep best makes")
     program = found(words.program)
     ready = prepared(document, files, program)
     return Sweep(document, files, ready, ready.key(hash_of(modules()), hash_of(program.read_bytes()), words.check))

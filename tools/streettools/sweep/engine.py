@@ -17,6 +17,7 @@ from .crew import Crew, Lost
 from .journal import Journal
 from .one_run import Outcome
 from .prepared import Keys
+from .variants import Asked
 
 AIM, MOST, GROWTH = 5.0, 64, 4
 """The seconds that a batch should take, its maximum number of runs, and its maximum size as a multiple of the batch
@@ -49,7 +50,7 @@ def interrupts_told(tell: Callable[[], None]) -> Iterator[None]:
 class Job:
     """Some variants on their way."""
 
-    indexes: list[int]
+    indexes: list[Asked]
     keys: list[str]
     sent: float
 
@@ -67,14 +68,14 @@ class Engine:
         """How many runs haven't been sent out."""
         self.alone: float | None = None
 
-    def run(self, pending: Iterator[tuple[int, str]], left: int = sys.maxsize) -> None:
+    def run(self, pending: Iterator[tuple[Asked, str]], left: int = sys.maxsize) -> None:
         """Runs the variants with these numbers and keys, of which there are `left`. A Ctrl-C ends it between two
         batches, so that each batch that was taken is written whole."""
         self.left = left
         with interrupts_told(lambda: self.over.put(None)):
             self.run_all(pending)
 
-    def run_all(self, pending: Iterator[tuple[int, str]]) -> None:
+    def run_all(self, pending: Iterator[tuple[Asked, str]]) -> None:
         """Sends out batches and takes their results, until nothing is left."""
         while True:
             self.look()
@@ -91,14 +92,14 @@ class Engine:
             if (job := self.jobs.pop(ticket, None)) is not None:
                 self.take(ticket, job)
 
-    def batch(self, pending: Iterator[tuple[int, str]]) -> list[tuple[int, str]]:
+    def batch(self, pending: Iterator[tuple[Asked, str]]) -> list[tuple[Asked, str]]:
         """Returns the next variants to send, none at the end."""
         share = self.left // (SHARES * max(1, self.threads))
         found = list(itertools.islice(pending, max(1, min(self.size, share))))
         self.left -= len(found)
         return found
 
-    def send(self, batch: list[tuple[int, str]]) -> None:
+    def send(self, batch: list[tuple[Asked, str]]) -> None:
         """Sends variants to some worker."""
         indexes, keys = [index for index, _ in batch], [key for _, key in batch]
         job = Job(indexes, keys, time.monotonic())

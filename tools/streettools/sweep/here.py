@@ -17,6 +17,7 @@ from ..shared.fault import Fault
 from ..shared.status import Status
 from .carried import Parcel
 from .crew import TRIES, Crew, Lost, Rows
+from .variants import Asked
 
 LOOK = 0.5
 """The seconds between two looks at how much memory a worker has."""
@@ -88,7 +89,7 @@ class Worker:
         except (OSError, IndexError):
             return 0
 
-    def rows(self, indexes: list[int]) -> Rows:
+    def rows(self, indexes: list[Asked]) -> Rows:
         """Returns the results of some variants. If the worker has more memory than it may, it is ended, and Died is
         raised."""
         try:
@@ -139,7 +140,7 @@ class Here(Crew):
     def count(self) -> int:
         return self.workers
 
-    def submit(self, indexes: list[int], over: Callable[[Any], object]) -> Future[Rows]:
+    def submit(self, indexes: list[Asked], over: Callable[[Any], object]) -> Future[Rows]:
         made = self.pool.submit(self.done, indexes)
         self.waits(made, over)
         return made
@@ -147,7 +148,7 @@ class Here(Crew):
     def waits(self, ticket: Future[Rows], over: Callable[[Any], object]) -> None:
         ticket.add_done_callback(over)
 
-    def done(self, indexes: list[int]) -> Rows:
+    def done(self, indexes: list[Asked]) -> Rows:
         """Returns a worker's results of some variants; a worker that dies is replaced."""
         worker = self.idle.get()
         try:

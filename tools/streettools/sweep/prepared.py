@@ -86,7 +86,8 @@ class Keys:
 
     def of(self, variant: Variant) -> str:
         """Returns the key of a run."""
-        return hash_of([self.fixed, [self.told(it) for it in variant.values], variant.seed])[:32]
+        more = [variant.cells] if variant.cells else []
+        return hash_of([self.fixed, [self.told(it) for it in variant.values], variant.seed, *more])[:32]
 
     def told(self, value: Any) -> Any:
         """Returns a text that distinguishes a value from others; for an alternative, all that it puts."""

@@ -2,20 +2,33 @@
 sample, each seed."""
 
 import math
-from dataclasses import dataclass
+from dataclasses import dataclass, replace
 from typing import Any
 
 from .study import Study
 from .values import Kind, Option
 
+Cells = tuple[tuple[int, tuple[Any, ...]], ...]
+"""Cells with their values, each with the number of its cabinet."""
+
+
+Placed = tuple[int, Cells, str | None]
+"""A variant that isn't only a place of the grid: its place, the cells that are put after its values, and the scenario
+that is run as it is, without the values of parameters: None for the variant's own, "" for the study's base, else the
+name of a file."""
+Asked = int | Placed
+"""Which variant is run: its place in the grid, or more."""
+
 
 @dataclass(frozen=True)
 class Variant:
-    """A variant: its place from 0 on, the value of each parameter in the study's order, and the seed."""
+    """A variant: its place from 0 on, the value of each parameter in the study's order, the seed, and cells that are
+    put after the values."""
 
     index: int
     values: tuple[Any, ...]
     seed: int | None
+    cells: Cells = ()
 
     def shown(self) -> list[Any]:
         """Returns the values as the table shows them."""
@@ -49,3 +62,12 @@ class Variants:
             else:
                 values.append(it.values.at(places.pop()))
         return Variant(index, tuple(values), self.seeds[seed])
+
+    def of(self, asked: Asked) -> Variant:
+        """Returns a variant by its place in the grid, or by more."""
+        if isinstance(asked, int):
+            return self.at(asked)
+        index, cells, base = asked
+        if base is None:
+            return replace(self.at(index), cells=cells)
+        return Variant(index, (Option("", (), base or None),), self.seeds[index % len(self.seeds)], cells)

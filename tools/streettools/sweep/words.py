@@ -12,6 +12,7 @@ examples:
   ./arterial sweep offsets.toml --count                     # the number of runs; nothing is run
   ./arterial sweep offsets.toml --show 17 > scenario.json   # the scenario of run 17 of the table
   ./arterial sweep offsets.toml -o offsets.csv --slurm --interface eth0 --workers 200
+  ./arterial sweep best --help                              # look for the best plan of a study
   ./arterial sweep measures                                 # the measures that are built in
   ./arterial sweep measure --help                           # measures of a trace that you have
   ./arterial sweep draw --help                              # pictures of a table
@@ -47,6 +48,12 @@ def parser() -> argparse.ArgumentParser:
         help="time limit of a run (default: 600)",
     )  # fmt: skip
     add_program(words)
+    add_workers(words)
+    return words
+
+
+def add_workers(words: argparse.ArgumentParser) -> None:
+    """Adds the options that name the workers."""
     where = words.add_argument_group("where the runs are done (default: in processes on this machine)")
     where.add_argument(
         "--workers", type=number(1, 4096), metavar="N", help="number of workers (default: the number of processors)"
@@ -64,4 +71,3 @@ def parser() -> argparse.ArgumentParser:
     where.add_argument(
         "--template", metavar="FILE", help="the batch job of --slurm (default: the one that comes with this tool)"
     )
-    return words

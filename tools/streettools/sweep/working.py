@@ -5,6 +5,7 @@ from pathlib import Path
 from typing import Any
 
 from .prepared import prepared
+from .variants import Asked
 
 
 class Work:
@@ -15,6 +16,6 @@ class Work:
         self.prepared = prepared(task["study"], files.__getitem__, program)
         self.runner = self.prepared.runner(task["check"], task["seconds"])
 
-    def rows(self, indexes: Iterable[int]) -> list[list[Any]]:
+    def rows(self, asked: Iterable[Asked]) -> list[list[Any]]:
         """Returns the results of some variants."""
-        return [self.runner.row(self.prepared.variants.at(index)) for index in indexes]
+        return [self.runner.row(self.prepared.variants.of(it)) for it in asked]

@@ -13,6 +13,11 @@ from streettools.cosim.mapping import read_map
 from streettools.cosim.queues.volumes import volumes_of
 from streettools.shared.fault import Fault
 from streettools.shared.given import content_of, refuse_strange, toml_of
+from streettools.plan.names import Names
+from streettools.sweep.best.goal import Goal
+from streettools.sweep.best.plans import Rules, Unfit
+from streettools.sweep.best.space import Space
+from streettools.sweep.best.wanted import wanted_of
 from streettools.sweep.prepared import prepared
 from streettools.sweep.study import study_of
 
@@ -58,6 +63,7 @@ travel = [20, 20.5]
 pattern = 1
 """
 STUDIES = [STUDY.encode(), *(path.read_bytes() for path in sorted(FOLDER.glob("*.toml")))]
+SEARCHES = [(FOLDER / "best.toml").read_bytes()]
 VOLUMES = [path.read_bytes() for path in sorted((TOP / "scenarios").glob("*.volumes.toml"))]
 SUMO_FOLDER = TOP / "scenarios/sumo"
 SUMO = sorted(SUMO_FOLDER.rglob("*.toml"))
@@ -100,6 +106,26 @@ def made_ready(document: dict) -> None:
             assert str(fault)
 
 
+def searched(document: dict) -> None:
+    """Reads a study with a search, and repairs or refuses its first and its last plan."""
+    try:
+        wanted, rest = wanted_of(document, fetched)
+        ready = prepared(rest, fetched, TOP / "model/program")
+        space, rules = Space(ready), Rules(ready.builder, Names())
+        Goal(wanted, ready)
+        space.moves()
+        plans = [tuple(0 for _ in space.counts), tuple(it - 1 for it in space.counts)]
+        plans.append(space.nearest(ready.builder.read(wanted.present, None)))
+    except Fault as fault:
+        assert str(fault)
+        return
+    for plan in plans:
+        try:
+            rules.kept(space.variant(plan))
+        except Unfit as why:
+            assert str(why)
+
+
 def read_of(read, content: bytes) -> None:
     """Reads a file in TOML."""
     try:
@@ -119,6 +145,19 @@ def test_damaged_studies(content):
 def test_studies_with_other_values(document):
     if is_toml(document):
         made_ready(document)
+
+
+@tried(200)
+@given(damaged(SEARCHES))
+def test_damaged_studies_with_a_search(content):
+    read_of(searched, content)
+
+
+@tried(200)
+@given(damaged_values([tomllib.loads(it.decode()) for it in SEARCHES]))
+def test_studies_with_a_search_with_other_values(document):
+    if is_toml(document):
+        searched(document)
 
 
 @tried(500)
