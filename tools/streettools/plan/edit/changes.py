@@ -187,19 +187,33 @@ def of_cycle(plan: Plan, change: Change) -> Made:
     numbers = [it for it in numbers if change.pattern in plan.of(it).patterns()]
     if not numbers:
         raise Wrong(f"no intersection has pattern {change.pattern}")
-    notes = []
-    if change.snap:
-        needs = {it: cycles.least(plan.of(it), change.pattern, plan.names.intersection(it)) for it in numbers}
-        longest = max(needs, key=lambda it: needs[it])
-        if needs[longest] > after:
-            notes.append(f"rules 17 to 19: {plan.names.called(longest)} needs a cycle of {needs[longest]} s, "
-                         f"{needs[longest] - after} s more than that")  # fmt: skip
-            after = needs[longest]
-    changed = {it: cycles.scaled(plan.of(it), change.pattern, after, plan.names.intersection(it)) for it in numbers}
+    notes: list[str] = []
+    try:
+        changed = cycled(plan, change.pattern, numbers, after)
+    except cycles.TooShort:
+        wished, after = after, shortest(plan, change.pattern, numbers, after, notes)
+        if not change.snap or after == wished:
+            raise Wrong("; ".join(notes)) from None
+        changed = cycled(plan, change.pattern, numbers, after)
     before = sorted({value(plan.of(it), ("pattern", change.pattern, 2)) for it in numbers})
     where = head(plan, change) if change.intersection else f"pattern {change.pattern}"
     words = f"{where}: cycle {' and '.join(map(str, before))} to {after} s"
     return Made(plan.with_tables(changed), words, notes, numbers)
+
+
+def cycled(plan: Plan, pattern: int, numbers: list[int], cycle: int) -> dict[int, Tables]:
+    """Returns the tables of some intersections with another cycle of a pattern."""
+    return {it: cycles.scaled(plan.of(it), pattern, cycle, plan.names.intersection(it)) for it in numbers}
+
+
+def shortest(plan: Plan, pattern: int, numbers: list[int], wished: int, notes: list[str]) -> int:
+    """Returns the shortest cycle of a pattern in which all of some intersections keep the rules; notes say which of
+    them needs it, and by how much a wished one is too short."""
+    needs = {it: cycles.least(plan.of(it), pattern, plan.names.intersection(it)) for it in numbers}
+    longest = max(needs, key=lambda it: needs[it])
+    notes.append(f"rules 17 to 19: {plan.names.called(longest)} needs a cycle of {needs[longest]} s, "
+                 f"{needs[longest] - wished} s more than that")  # fmt: skip
+    return needs[longest]
 
 
 def timed(plan: Plan, change: Change) -> Made:
@@ -213,7 +227,7 @@ def timed(plan: Plan, change: Change) -> Made:
     each = (PHASE_FIELDS if is_phase else UNIT_FIELDS)[change.name]
     said = int(change.value) if change.value == round(change.value) else change.value
     cell = ("phase", change.phase, each.column) if is_phase else ("unit", each.column)
-    before = each.say(value(tables, cell))
+    before = each.show(value(tables, cell))
     put(tables, cell, each.read(said))
     refuse_new(plan, change, tables)
     what = f"phase {change.phase}, {change.name}" if is_phase else change.name

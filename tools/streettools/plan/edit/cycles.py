@@ -12,24 +12,29 @@ from ..pattern_rules import has_pair
 from . import edges
 
 
+TRIED = (64, 96, 128, 192, fix.LONGEST)
+"""Up to which cycles splits are looked for: the work grows with the third power."""
+
+
 def least(tables: Tables, pattern: int, known: Intersection) -> int:
-    """Returns the shortest cycle in seconds in which some splits of a pattern keep the rules; 0 if that isn't known."""
+    """Returns the shortest cycle in seconds in which some splits of a pattern keep the rules."""
     laid = Layout(tables, pattern)
-    if not has_pair(tables, pattern):
-        return 0
-    enough = np.flatnonzero(fix.laid_out(laid, known.partners, fix.LONGEST)[1][-1] < fix.NEVER)
-    if not enough.size:
-        raise Wrong(f"pattern {pattern}: no cycle up to {fix.LONGEST} s is long enough for the minimum services")
-    return int(enough[0])
+    if has_pair(tables, pattern):
+        for most in TRIED:
+            enough = np.flatnonzero(fix.laid_out(laid, known.partners, most)[1][-1] < fix.NEVER)
+            if enough.size:
+                return int(enough[0])
+    raise Wrong(f"pattern {pattern}: no cycle up to {fix.LONGEST} s is long enough for the minimum services")
+
+
+class TooShort(Exception):
+    """No splits keep the rules in a cycle."""
 
 
 def shares(times: list[int], total: int) -> list[int]:
     """Returns whole numbers with the sum `total` and about the shares of `times`."""
     whole = sum(times)
-    if not times or whole == 0:
-        return [total // max(1, len(times))] * max(0, len(times) - 1) + ([total - total // len(times) * (len(times) - 1)]
-                                                                      if times else [])  # fmt: skip
-    exact = [total * it / whole for it in times]
+    exact = [total * it / whole if whole else total / len(times) for it in times]
     found = [int(it) for it in exact]
     behind = sorted(range(len(times)), key=lambda at: found[at] - exact[at])
     for at in behind[: total - sum(found)]:
@@ -39,7 +44,8 @@ def shares(times: list[int], total: int) -> list[int]:
 
 def scaled(tables: Tables, pattern: int, cycle: int, known: Intersection) -> Tables:
     """Returns tables in which a pattern has another cycle, with splits in the same shares. If these break a rule, the
-    smallest change that keeps the rules is made to them. The offset is taken modulo the cycle."""
+    smallest change that keeps the rules is made to them; TooShort is raised if no splits keep them. The offset is taken
+    modulo the cycle."""
     laid = Layout(tables, pattern)
     others = [it for it in edges.users(tables, laid.split) if it != pattern]
     if others:
@@ -57,6 +63,6 @@ def scaled(tables: Tables, pattern: int, cycle: int, known: Intersection) -> Tab
     if any(edges.short(found, pattern)):
         try:
             fix.apply(found, fix.least_change(found, pattern, known))
-        except fix.NoChange as why:
-            raise Wrong(str(why)) from None
+        except fix.NoChange:
+            raise TooShort from None
     return found

@@ -1,0 +1,120 @@
+"""The versions of a sheet that is edited: texts, what they mean, and the way back and forth between them."""
+
+from collections.abc import Callable
+from dataclasses import dataclass, field
+
+from ...shared.given import Defect, Unreadable, Wrong
+from .. import names, sources
+from ..findings import Finding
+from . import kept
+from .changes import Change, made
+from .plans import Plan, plan_of
+
+MOST = 500
+"""How many versions are kept for undo; of more, the oldest is dropped."""
+
+
+@dataclass(frozen=True)
+class Version:
+    """A version: its number, which no other one has, its text, its plan, what changed, and what was found while the
+    text was read."""
+
+    number: int
+    text: str
+    plan: Plan
+    label: str
+    findings: tuple[Finding, ...] = ()
+
+
+class Behind(Exception):
+    """A change was asked of a version that isn't the current one."""
+
+
+def read(number: int, text: str, label: str) -> Version:
+    """Returns the version of a text; raises Unreadable if the text isn't a sheet that can be drawn."""
+    source = sources.source_of("sheet.toml", text.encode(), names.Names)
+    if source.errors or source.street is None:
+        raise Unreadable([Defect(it.where, it.words) for it in source.errors])
+    return Version(number, text, plan_of(source.street), label, tuple(source.findings))
+
+
+@dataclass
+class History:
+    """All versions, the place of the current one, and the text that the file has."""
+
+    versions: list[Version]
+    saved: str
+    at: int = 0
+    count: int = 1
+    notes: list[str] = field(default_factory=list)
+    hears: Callable[[], None] = lambda: None
+
+    @property
+    def now(self) -> Version:
+        """The current version."""
+        return self.versions[self.at]
+
+    @property
+    def is_saved(self) -> bool:
+        """Whether the file has the current version."""
+        return self.now.text == self.saved
+
+    def of(self, number: int) -> Version | None:
+        """Returns the version of a number, None if it is gone."""
+        return next((it for it in self.versions if it.number == number), None)
+
+    def ask(self, number: int) -> None:
+        """Refuses what is asked of a version that isn't the current one."""
+        if number != self.now.number:
+            raise Behind
+
+    def next_number(self) -> int:
+        """Returns a number for a new version."""
+        self.count += 1
+        return self.count
+
+    def add(self, version: Version) -> None:
+        """Adds a version after the current one; those that were undone are dropped."""
+        self.versions[self.at + 1 :] = [version]
+        del self.versions[:-MOST]
+        self.at = len(self.versions) - 1
+        self.hears()
+
+    def change(self, change: Change) -> list[str]:
+        """Makes a change to the current version, and returns its notes; raises Wrong if it can't be made. A change
+        that changes nothing adds no version."""
+        found = made(self.now.plan, change)
+        text, is_kept = kept.with_changes(self.now.text, self.now.plan, found.plan)
+        if text == self.now.text:
+            return found.notes
+        notes = list(found.notes)
+        if not is_kept:
+            notes.append("the sheet is written from its values, and its comments are left out; undo brings them back")
+        try:
+            self.add(read(self.next_number(), text, found.label))
+        except Unreadable as fault:
+            raise Wrong(f"the sheet can't hold this change: {fault}") from None
+        return notes
+
+    def undo(self) -> None:
+        """Goes back by a version."""
+        if self.at == 0:
+            raise Wrong("there is nothing to undo")
+        self.at -= 1
+        self.hears()
+
+    def redo(self) -> None:
+        """Goes forth by a version."""
+        if self.at + 1 == len(self.versions):
+            raise Wrong("there is nothing to redo")
+        self.at += 1
+        self.hears()
+
+    def take(self, text: str, label: str) -> None:
+        """Adds a whole text as a version."""
+        self.add(read(self.next_number(), text, label))
+
+
+def begun(text: str) -> History:
+    """Returns the versions of a sheet as it is opened."""
+    return History([read(1, text, "as opened")], text)
