@@ -12,7 +12,6 @@ from ...shared.given import Unreadable
 from ...shared.program import answering
 from ...shared.saying import say
 from ...shared.status import Status
-from ...street import ports
 
 if TYPE_CHECKING:
     from .editor import Editor
@@ -64,6 +63,7 @@ def made(words: argparse.Namespace) -> "Editor":
 
 async def served(editor: "Editor", port: int) -> None:
     """Serves the page of an editor until Ctrl-C."""
+    from ...street import ports  # takes a while
     from .web import Server
 
     over = asyncio.Event()
