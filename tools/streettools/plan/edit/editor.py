@@ -46,7 +46,8 @@ class Latest:
         """Does what waits."""
         while self.waiting is not None:
             work, self.waiting = self.waiting, None
-            await work()
+            with contextlib.suppress(Fault):
+                await work()
 
     def end(self) -> None:
         """Drops all."""
@@ -208,7 +209,9 @@ class Editor:
         if isinstance(order, Edit):
             self.history.ask(order.at)
             page.quick.waiting = None
-            notes = await asyncio.to_thread(self.history.change, order.change)
+            version, notes = await asyncio.to_thread(self.history.changed, order.change)
+            if version is not None:
+                self.history.add(version)
             page.say(done=order.mark, notes=notes, label=self.history.now.label)
         elif isinstance(order, Step):
             self.history.ask(order.at)

@@ -179,7 +179,9 @@ class Shown:
         """Returns what a page draws."""
         ways = [[self.greens(at, way) for at in range(len(self.group))] for way in (0, 1)]
         bands = [self.bands(spans, delays) for spans, delays in zip(ways, delays_of(travel), strict=True)]
-        share = [round(sum(high - low for low, high in it) / max(1, self.end - self.start), 4) for it in bands]
+        last = max(self.start + 1, self.end - sum(travel))
+        met = [sum(max(0, min(high, last) - low) for low, high in it) for it in bands]
+        share = [round(it / (last - self.start), 4) for it in met]
         shift = time - self.start
         return {
             "start": time, "end": time + self.end - self.start, "numbers": self.group,

@@ -1,7 +1,6 @@
 """The versions of a sheet that is edited: texts, what they mean, and the way back and forth between them."""
 
-from collections.abc import Callable
-from dataclasses import dataclass, field
+from dataclasses import dataclass
 
 from ...shared.given import Defect, Unreadable, Wrong
 from .. import names, sources
@@ -46,8 +45,6 @@ class History:
     saved: str
     at: int = 0
     count: int = 1
-    notes: list[str] = field(default_factory=list)
-    hears: Callable[[], None] = lambda: None
 
     @property
     def now(self) -> Version:
@@ -68,32 +65,33 @@ class History:
         if number != self.now.number:
             raise Behind
 
-    def next_number(self) -> int:
-        """Returns a number for a new version."""
-        self.count += 1
-        return self.count
-
     def add(self, version: Version) -> None:
         """Adds a version after the current one; those that were undone are dropped."""
+        self.count = version.number
         self.versions[self.at + 1 :] = [version]
         del self.versions[:-MOST]
         self.at = len(self.versions) - 1
-        self.hears()
 
-    def change(self, change: Change) -> list[str]:
-        """Makes a change to the current version, and returns its notes; raises Wrong if it can't be made. A change
-        that changes nothing adds no version."""
+    def changed(self, change: Change) -> tuple[Version | None, list[str]]:
+        """Returns the version that a change makes of the current one, None if it changes nothing, and its notes; raises
+        Wrong if the change can't be made. The history stays as it is."""
         found = made(self.now.plan, change)
         text, is_kept = kept.with_changes(self.now.text, self.now.plan, found.plan)
         if text == self.now.text:
-            return found.notes
+            return None, found.notes
         notes = list(found.notes)
         if not is_kept:
             notes.append("the sheet is written from its values, and its comments are left out; undo brings them back")
         try:
-            self.add(read(self.next_number(), text, found.label))
+            return read(self.count + 1, text, found.label), notes
         except Unreadable as fault:
             raise Wrong(f"the sheet can't hold this change: {fault}") from None
+
+    def change(self, change: Change) -> list[str]:
+        """Makes a change to the current version, and returns its notes."""
+        version, notes = self.changed(change)
+        if version is not None:
+            self.add(version)
         return notes
 
     def undo(self) -> None:
@@ -101,18 +99,16 @@ class History:
         if self.at == 0:
             raise Wrong("there is nothing to undo")
         self.at -= 1
-        self.hears()
 
     def redo(self) -> None:
         """Goes forth by a version."""
         if self.at + 1 == len(self.versions):
             raise Wrong("there is nothing to redo")
         self.at += 1
-        self.hears()
 
     def take(self, text: str, label: str) -> None:
         """Adds a whole text as a version."""
-        self.add(read(self.next_number(), text, label))
+        self.add(read(self.count + 1, text, label))
 
 
 def begun(text: str) -> History:

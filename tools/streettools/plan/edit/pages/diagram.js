@@ -5,6 +5,7 @@ const GAP = 34;
 const TALLEST = 420;
 const LETTER = 6.6;
 const LABEL = 90;
+const STEPS = [10, 15, 20, 30, 60, 120, 300, 600, 900];
 const USUAL_TRAVEL = 20;
 
 function travelOf(row) {
@@ -121,7 +122,13 @@ function drawDiagram(id, drawing, edits) {
     .attr("points", (it) => bandPoints(it[1], it[2], heights, x));
   const axis = svg.selectAll("g.axis").data([0]).join("g").attr("class", "axis");
   axis.attr("transform", `translate(0,${height - 26})`);
-  axis.call(d3.axisBottom(x).ticks(Math.max(2, Math.floor(width / LABEL))).tickFormat(clock));
+  axis.call(d3.axisBottom(x).tickValues(momentsIn(x.domain(), width / LABEL)).tickFormat(clock));
+}
+
+// Whole times of day in a span, at most so many.
+function momentsIn([from, to], most) {
+  const step = 10 * (STEPS.find((it) => (to - from) / (10 * it) <= most) || 3600);
+  return d3.range(Math.ceil(from / step) * step, to, step);
 }
 
 function clipped(svg, id, x, height) {

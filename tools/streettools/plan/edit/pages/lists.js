@@ -71,7 +71,7 @@ function showIntersections(street) {
     const errors = found.filter((one) => one.level === "error").length;
     const warnings = found.filter((one) => one.level === "warning").length;
     const on = runsOn(at);
-    put(by(`marks-${it.number}`), [errors ? `⚠ ${errors} broken` : "", warnings ? `${warnings} warnings` : "", on]
+    put(by(`marks-${it.number}`), [errors ? `⚠ ${errors} broken` : "", warnings ? `${warnings} warning${warnings === 1 ? "" : "s"}` : "", on]
       .filter(Boolean).join(", ") || "–");
   });
 }

@@ -14,13 +14,13 @@ function phaseOf(number) {
 }
 
 // The slots with an edge moved by some seconds.
-function movedSlots(rings, edge, by) {
-  if (!edge || !by) return rings.slots;
+function movedSlots(rings, edge, far) {
+  if (!edge || !far) return rings.slots;
   const found = [];
   for (const ring of [1, 2]) {
     let at = 0;
     for (const slot of rings.slots.filter((it) => it.ring === ring)) {
-      const length = slot.end - slot.start + 10 * by * (edge.by[slot.phase] || 0);
+      const length = slot.end - slot.start + 10 * far * (edge.by[slot.phase] || 0);
       found.push({ ...slot, start: at, end: at + length });
       at += length;
     }
@@ -32,8 +32,8 @@ function topOf(ring) {
   return TOP + (ring - 1) * RING;
 }
 
-// Draws the rings; `edge` is moved by `by` seconds while it is dragged.
-function drawRings(edge, by) {
+// Draws the rings; `edge` is moved by `far` seconds while it is dragged.
+function drawRings(edge, far) {
   const rings = ringsOf();
   hideDrawing("rings", !rings);
   by("no-rings").hidden = Boolean(rings);
@@ -42,7 +42,7 @@ function drawRings(edge, by) {
   const width = Math.max(320, svg.node().clientWidth || 900);
   svg.attr("viewBox", `0 0 ${width} ${TOP + 2 * RING + 22}`);
   const x = d3.scaleLinear().domain([0, rings.cycle]).range([52, width - 30]);
-  const slots = movedSlots(rings, edge, by);
+  const slots = movedSlots(rings, edge, far);
   drawSlots(svg, slots, x);
   drawLights(svg, rings, x);
   drawZero(svg, rings, slots, x);

@@ -18,8 +18,8 @@ function put(element, text) {
   if (element.textContent !== text) element.textContent = text;
 }
 
-function modulo(number, by) {
-  return ((number % by) + by) % by;
+function modulo(number, base) {
+  return ((number % base) + base) % base;
 }
 
 function within(number, least, most) {
