@@ -224,6 +224,8 @@ def timed(plan: Plan, change: Change) -> Made:
         raise Wrong(f"{change.name!r} isn't a time that is edited here")
     if is_phase and change.phase not in tables.enabled():
         raise Wrong(f"{plan.names.called(number)} has no phase {change.phase}")
+    if is_phase and change.phase in plan.names.intersection(number).partners:
+        raise Wrong(f"phase {change.phase} is a placeholder phase: it has the times of the phase that it faces")
     each = (PHASE_FIELDS if is_phase else UNIT_FIELDS)[change.name]
     said = int(change.value) if change.value == round(change.value) else change.value
     cell = ("phase", change.phase, each.column) if is_phase else ("unit", each.column)

@@ -103,10 +103,11 @@ class Kept:
             handle = os.open(self.draft_path, os.O_RDONLY | os.O_NOFOLLOW | os.O_NONBLOCK)
         except OSError:
             return None
+        known = os.fstat(handle)
+        if not stat.S_ISREG(known.st_mode) or known.st_uid != os.getuid() or known.st_size > 2 * MOST_BYTES:
+            os.close(handle)
+            return None
         with open(handle, "rb") as file:
-            known = os.fstat(handle)
-            if not stat.S_ISREG(known.st_mode) or known.st_uid != os.getuid() or known.st_size > 2 * MOST_BYTES:
-                return None
             try:
                 said = json.loads(file.read(2 * MOST_BYTES))
                 if set(said) != {"version", "of", "text"} or said["version"] != 1:

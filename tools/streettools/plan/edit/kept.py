@@ -80,7 +80,7 @@ def put_cell(row: Row, cell: Cell, new: int) -> None:
     match cell:
         case ("phase", phase, column):
             name = next(name for name, it in PHASE_FIELDS.items() if it.column == column)
-            inline(below(row, "phase"), str(phase))[name] = plain(PHASE_FIELDS[name].show(new))
+            put_inline(inline(below(row, "phase"), str(phase)), name, plain(PHASE_FIELDS[name].show(new)))
         case ("unit", column):
             name = next(name for name, it in UNIT_FIELDS.items() if it.column == column)
             below(row, "coordination")[name] = plain(UNIT_FIELDS[name].show(new))
@@ -106,6 +106,14 @@ def inline(table: Row, name: str) -> Row:
         table[name] = tomlkit.inline_table()
     found: Row = table[name]
     return found
+
+
+def put_inline(table: Row, name: str, value: float | int | None) -> None:
+    """Puts a value into a table in one line; TOML Kit puts a blank before a new name only if it is appended."""
+    if name in table:
+        table[name] = value
+    else:
+        table.append(name, value)  # type: ignore[attr-defined]
 
 
 def put_sequence(row: Row, number: int, new: Tables, partners: list[int]) -> None:
