@@ -37,7 +37,7 @@ class Change:
 
 @dataclass
 class Made:
-    """A changed plan: what was changed, in words; notes, as where it stopped; the intersections whose tables changed."""
+    """A changed plan: what was changed, in words; notes, as where it stopped; the intersections that changed."""
 
     plan: Plan
     label: str

@@ -74,7 +74,7 @@ def users(tables: Tables, split: int) -> list[int]:
 
 
 def short(tables: Tables, pattern: int) -> Iterator[tuple[int, int, int]]:
-    """Yields the rules 17 to 19 that a pattern breaks: the rule, the pattern, and the phase if the rule is about one."""
+    """Yields which of the rules 17 to 19 a pattern breaks: the rule, the pattern, and the phase if there is one."""
     laid = Layout(tables, pattern)
     rings = [sum(map(laid.time, order)) for order in laid.orders]
     equal = all(sum(map(laid.time, laid.of_side(it, 1))) == sum(map(laid.time, laid.of_side(it, 2)))

@@ -2,6 +2,7 @@
 
 import asyncio
 import contextlib
+import functools
 import json
 import os
 import pathlib
@@ -196,7 +197,7 @@ class Editor:
             page.asked, page.other = order.asked, order.other
             self.show(page)
         elif isinstance(order, Edit) and order.is_try:
-            page.quick.ask(lambda: self.tried(page, order))
+            page.quick.ask(functools.partial(self.tried, page, order))
         elif self.draft is not None and not isinstance(order, Drafted):
             raise Wrong(UNANSWERED)
         else:

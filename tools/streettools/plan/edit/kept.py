@@ -52,9 +52,9 @@ def in_place(text: str, before: Plan, after: Plan) -> str:
     return tomlkit.dumps(sheet)
 
 
-def plain(number: float | None) -> float | int | None:
+def plain(number: Any) -> Any:
     """Returns a number without a decimal point if it is whole."""
-    return int(number) if number is not None and number == int(number) else number
+    return int(number) if isinstance(number, float) and number == int(number) else number
 
 
 def put_cells(row: Row, old: Tables, new: Tables, partners: list[int]) -> None:
@@ -75,7 +75,7 @@ def put_cells(row: Row, old: Tables, new: Tables, partners: list[int]) -> None:
         put_splits(row, old, number, times, partners)
 
 
-def put_cell(row: Row, cell: Cell, new: int) -> None:
+def put_cell(row: Row, cell: Cell, new: Any) -> None:
     """Puts a time of a phase, a limit, or a number of a pattern into an intersection of a sheet."""
     match cell:
         case ("phase", phase, column):
@@ -108,7 +108,7 @@ def inline(table: Row, name: str) -> Row:
     return found
 
 
-def put_inline(table: Row, name: str, value: float | int | None) -> None:
+def put_inline(table: Row, name: str, value: Any) -> None:
     """Puts a value into a table in one line; TOML Kit puts a blank before a new name only if it is appended."""
     if name in table:
         table[name] = value

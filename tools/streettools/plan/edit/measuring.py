@@ -68,7 +68,7 @@ def measured(program: str, job: Job) -> dict[str, Any]:
         number = row["cabinet"]
         means = {name: mean([it["cabinets"][at][name] for it in values]) for name in NAMES}
         cabinets.append({"number": number, **means, "queue": mean([longest(it, number) for it in values])})
-    cars = [next((it for it in value["kinds"] if it["kind"] == "car"), {}) for value in values]
+    cars: list[dict[str, Any]] = [next((it for it in value["kinds"] if it["kind"] == "car"), {}) for value in values]
     street = {name: mean([it.get(name) for it in cars]) for name in NAMES}
     queues = [it["queue"] for it in cabinets if it["queue"] is not None]
     return {"street": street | {"queue": max(queues, default=None)}, "cabinets": cabinets}

@@ -103,6 +103,10 @@ class Running:
         """Ends the editor, and returns its exit status."""
         if self.process.poll() is None:
             self.process.send_signal(number)
+        return self.ended()
+
+    def ended(self):
+        """Waits until the editor ends, and returns its exit status."""
         status = self.process.wait(SECONDS)
         self.reader.join(SECONDS)
         self.process.stderr.close()

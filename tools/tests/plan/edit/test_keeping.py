@@ -51,8 +51,8 @@ def test_only_its_owner_can_read_a_draft_and_saving_removes_it(sheet):
 
 
 @pytest.mark.parametrize(
-    "content", [b"", b"{", b"[]", b"7", b'{"version":1}', b'{"version":2,"of":"","text":""}', b"\xff\xfe", b"[" * 99_999,
-                b'{"version":1,"of":"","text":"","more":1}', b'{"version":1,"of":"","text":"\\ud800"}']
+    "content", [b"", b"{", b"[]", b"7", b'{"version":1}', b'{"version":2,"of":"","text":""}', b"\xff\xfe",
+                b"[" * 99_999, b'{"version":1,"of":"","text":"","more":1}', b'{"version":1,"of":"","text":"\\ud800"}']
 )  # fmt: skip
 def test_what_is_not_a_draft_is_not_offered(sheet, content):
     sheet.with_name("elm.toml.draft").write_bytes(content)
@@ -88,7 +88,8 @@ def test_a_second_editor_of_a_sheet_is_refused_also_after_it_was_saved(sheet):
 EDIT = {"do": "set", "at": 1, "mark": 3,
         "change": {"kind": "offset", "intersection": 1, "pattern": 1, "value": 12, "snap": True}}  # fmt: skip
 VIEW = {"do": "view", "other": 0,
-        "view": {"intersection": 1, "pattern": 1, "time": 0, "minutes": 10, "settled": True, "calls": "all"}}  # fmt: skip
+        "view": {"intersection": 1, "pattern": 1, "time": 0, "minutes": 10, "settled": True,
+                 "calls": "all"}}  # fmt: skip
 
 
 def test_an_order_that_is_well_formed_is_read():
@@ -115,7 +116,8 @@ WRONG = [
     changed(EDIT, ["change", "value"], "12"), changed(EDIT, ["change", "value"], 1e9),
     changed(EDIT, ["change", "value"], float("nan")), changed(EDIT, ["change", "snap"], 1),
     changed(EDIT, ["change", "name"], "a\n"), changed(EDIT, ["change", "more"], 1),
-    changed(VIEW, ["view", "minutes"], 61), changed(VIEW, ["view", "time"], 86_400), changed(VIEW, ["view", "calls"], ""),
+    changed(VIEW, ["view", "minutes"], 61), changed(VIEW, ["view", "time"], 86_400),
+    changed(VIEW, ["view", "calls"], ""),
     changed(VIEW, ["view", "intersection"], 0), changed(VIEW, ["other"], -1), '{"do":"draft","take":"yes"}',
 ]  # fmt: skip
 
