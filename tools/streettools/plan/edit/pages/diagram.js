@@ -117,10 +117,10 @@ function drawDiagram(id, drawing, edits) {
   drawGreens(svg, id, drawing, heights, x);
   const delays = [0, 1].map((way) => delaysOf(rows, way));
   const polygons = [0, 1].flatMap((way) => bandsOf(drawing, way, x).map((it) => [...it, delays[way]]));
-  svg.selectAll("g.bands").data([0]).join("g").attr("class", "bands").attr("clip-path", `url(#${id}-clip)`)
+  layer(svg, "bands").attr("clip-path", `url(#${id}-clip)`)
     .selectAll("polygon").data(polygons).join("polygon").attr("class", (it) => it[0])
     .attr("points", (it) => bandPoints(it[1], it[2], heights, x));
-  const axis = svg.selectAll("g.axis").data([0]).join("g").attr("class", "axis");
+  const axis = layer(svg, "axis");
   axis.attr("transform", `translate(0,${height - 26})`);
   axis.call(d3.axisBottom(x).tickValues(momentsIn(x.domain(), width / LABEL)).tickFormat(clock));
 }
@@ -147,9 +147,9 @@ function drawNames(svg, rows, heights, edits) {
   names.attr("class", (it) => `name${it.number === chosen ? " chosen" : ""}`).attr("x", 6)
     .attr("y", (it, at) => heights[at] + 4).text((it) => it.name + marksOf(it.number));
   if (edits) {
-    names.attr("role", "button").attr("tabindex", 0).attr("aria-label", (it) => `Choose ${it.name}`)
-      .on("click", (event, it) => choose(it.number))
-      .on("keydown", (event, it) => { if (event.key === "Enter" || event.key === " ") choose(it.number); });
+    names.attr("role", "button").attr("tabindex", 0).attr("aria-label", (it) => `Choose ${it.name}`);
+    listen(names, "click", (event, it) => choose(it.number));
+    listen(names, "keydown", (event, it) => { if (event.key === "Enter" || event.key === " ") choose(it.number); });
   }
 }
 
@@ -162,7 +162,7 @@ function drawWindows(svg, id, rows, heights, x, edits) {
   const [from, to] = x.domain();
   const all = rows.flatMap((row, at) => windowsOf(row, from, to).map((it) => ({ ...it, at })));
   const rects = all.flatMap((it) => [0, 1].map((way) => ({ ...it, way })));
-  const group = svg.selectAll("g.windows").data([0]).join("g").attr("class", "windows").attr("clip-path", `url(#${id}-clip)`);
+  const group = layer(svg, "windows").attr("clip-path", `url(#${id}-clip)`);
   group.selectAll("line.road").data(rows).join("line").attr("class", "road").attr("x1", x.range()[0])
     .attr("x2", x.range()[1]).attr("y1", (it, at) => heights[at]).attr("y2", (it, at) => heights[at]);
   const drawn = group.selectAll("rect.plan").data(rects).join("rect").attr("class", "plan")
@@ -173,7 +173,7 @@ function drawWindows(svg, id, rows, heights, x, edits) {
   draggable(drawn, ...offsets);
   const firsts = rows.map((row, at) => ({ row, at, first: all.find((it) => it.at === at && it.start >= from) }))
     .filter((it) => it.first);
-  const handles = svg.selectAll("g.offset").data(firsts, (it) => it.row.number).join((enter) => {
+  const handles = layer(svg, "offsets").selectAll("g.offset").data(firsts, (it) => it.row.number).join((enter) => {
     const it = enter.append("g").attr("class", "handle offset").attr("role", "slider").attr("tabindex", 0);
     it.append("rect").attr("class", "hit").attr("x", -14).attr("y", -22).attr("width", 28).attr("height", 28);
     it.append("path").attr("d", "M-7,-16 L7,-16 L0,-4 Z");
@@ -183,8 +183,8 @@ function drawWindows(svg, id, rows, heights, x, edits) {
     .attr("id", (it) => `offset-handle-${it.row.number}`)
     .attr("aria-label", (it) => `Offset of ${it.row.name}`).attr("aria-valuemin", 0)
     .attr("aria-valuemax", (it) => it.row.cycle / 10 - 1).attr("aria-valuenow", (it) => it.row.offset / 10)
-    .attr("aria-valuetext", (it) => seconds(it.row.offset))
-    .on("keydown", (event, it) => edits.key(event, it.row));
+    .attr("aria-valuetext", (it) => seconds(it.row.offset));
+  listen(handles, "keydown", (event, it) => edits.key(event, it.row));
   draggable(handles, ...[(it) => edits.begin(it.row, x), edits.move, edits.end]);
 }
 
@@ -193,7 +193,7 @@ function drawGreens(svg, id, drawing, heights, x) {
   const greens = (run && run.greens) || [[], []];
   const place = (number) => rows.findIndex((it) => it.number === number);
   const bars = [0, 1].flatMap((way) => greens[way].flatMap((spans, at) => spans.map((span) => [way, place(run.numbers[at]), span])));
-  svg.selectAll("g.greens").data([0]).join("g").attr("class", "greens").attr("clip-path", `url(#${id}-clip)`)
+  layer(svg, "greens").attr("clip-path", `url(#${id}-clip)`)
     .selectAll("rect").data(bars.filter((it) => it[1] >= 0)).join("rect").attr("class", "green")
     .attr("x", (it) => x(it[2][0])).attr("width", (it) => Math.max(1, x(it[2][1]) - x(it[2][0])))
     .attr("y", (it) => heights[it[1]] + (it[0] ? 3 : -9)).attr("height", 6);

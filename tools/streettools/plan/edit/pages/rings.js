@@ -48,7 +48,7 @@ function drawRings(edge, far) {
   drawZero(svg, rings, slots, x);
   drawEdges(svg, rings, slots, x);
   drawEnd(svg, rings, x);
-  const axis = svg.selectAll("g.axis").data([0]).join("g").attr("class", "axis");
+  const axis = layer(svg, "axis");
   axis.attr("transform", `translate(0,${TOP + 2 * RING - 6})`);
   axis.call(d3.axisBottom(x).ticks(Math.floor(width / 60)).tickFormat((it) => it / 10));
   svg.selectAll("text.ring").data([1, 2]).join("text").attr("class", "ring").attr("x", 4)
@@ -82,7 +82,7 @@ function slotText(slot) {
 }
 
 function drawSlots(svg, slots, x) {
-  const groups = svg.selectAll("g.slots").data(slots, (it) => it.phase).join("g").attr("class", "slots")
+  const groups = layer(svg, "all-slots").selectAll("g.slots").data(slots, (it) => it.phase).join("g").attr("class", "slots")
     .attr("id", (it) => `slot-${it.phase}`).attr("transform", (it) => `translate(${x(it.start)},${topOf(it.ring)})`);
   const wide = (ticks) => Math.max(0, x(ticks) - x(0));
   groups.selectAll("rect.part").data(partsOf).join("rect").attr("class", (it) => `part ${it[0]}`)
@@ -143,7 +143,7 @@ function drawLights(svg, rings, x) {
   }
   const kinds = { G: "green", Y: "yellow", C: "clear", W: "walk", F: "flash" };
   const seen = bars.filter((it) => it[3] > 0 && it[2] < rings.cycle && kinds[it[1]]);
-  svg.selectAll("g.lights").data([0]).join("g").attr("class", "lights").selectAll("rect").data(seen).join("rect")
+  layer(svg, "lights").selectAll("rect").data(seen).join("rect")
     .attr("class", (it) => kinds[it[1]]).attr("x", (it) => x(Math.max(0, it[2])))
     .attr("width", (it) => x(Math.min(rings.cycle, it[3])) - x(Math.max(0, it[2])))
     .attr("y", (it) => topOf(it[0]) + SLOT + 4 + 10 * it[4]).attr("height", (it) => (it[4] ? 5 : 8));
@@ -154,9 +154,10 @@ function drawZero(svg, rings, slots, x) {
   const pair = slots.filter((it) => it.coordinated);
   const zero = rings.zero === undefined ? null : Math.max(...pair.map((it) => it.start));
   const data = zero === null ? [] : [rings.end ? modulo(zero + rings.window, rings.cycle) : zero];
-  svg.selectAll("line.zero").data(data).join("line").attr("class", "zero").attr("x1", x).attr("x2", x)
+  const part = layer(svg, "zeros");
+  part.selectAll("line.zero").data(data).join("line").attr("class", "zero").attr("x1", x).attr("x2", x)
     .attr("y1", 14).attr("y2", TOP + 2 * RING - 10);
-  svg.selectAll("text.offset").data(data).join("text").attr("class", "offset").attr("x", (it) => x(it) + 4).attr("y", 14)
+  part.selectAll("text.offset").data(data).join("text").attr("class", "offset").attr("x", (it) => x(it) + 4).attr("y", 14)
     .text(`${rings.end ? "end of green" : "local zero"}: offset ${known.facts.chosen.offset} s`);
 }
 
@@ -165,7 +166,7 @@ function endOf(slots, phase) {
 }
 
 function drawEdges(svg, rings, slots, x) {
-  const handles = svg.selectAll("g.edge").data(rings.edges, (it) => it.phase).join((enter) => {
+  const handles = layer(svg, "edges").selectAll("g.edge").data(rings.edges, (it) => it.phase).join((enter) => {
     const it = enter.append("g").attr("role", "slider").attr("tabindex", 0);
     it.append("rect").attr("class", "hit").attr("x", -10).attr("y", -8).attr("width", 20).attr("height", SLOT + 16);
     it.append("line").attr("y1", 0).attr("y2", SLOT);
@@ -178,8 +179,8 @@ function drawEdges(svg, rings, slots, x) {
     .attr("transform", (it) => `translate(${x(endOf(slots, it.phase))},${topOf(it.ring)})`)
     .attr("aria-label", (it) => `${it.barrier ? "Barrier" : "Edge"} after phase ${it.phase}: its split`)
     .attr("aria-valuemin", (it) => planned(it) + it.least).attr("aria-valuemax", (it) => planned(it) + it.most)
-    .attr("aria-valuenow", length).attr("aria-valuetext", (it) => `${length(it)} s`)
-    .on("keydown", (event, it) => keyEdge(event, it)).raise();
+    .attr("aria-valuenow", length).attr("aria-valuetext", (it) => `${length(it)} s`);
+  listen(handles, "keydown", keyEdge);
   draggable(handles, (it) => ({ edge: it, x, by: 0 }), moveEdge, endEdge);
 }
 
@@ -218,7 +219,7 @@ function keyEdge(event, edge) {
 
 // The end of the cycle, which is dragged for another cycle.
 function drawEnd(svg, rings, x) {
-  const handle = svg.selectAll("g.end").data([rings]).join((enter) => {
+  const handle = layer(svg, "ends").selectAll("g.end").data([rings]).join((enter) => {
     const it = enter.append("g").attr("class", "handle end").attr("role", "slider").attr("tabindex", 0).attr("id", "cycle-handle");
     it.append("rect").attr("class", "hit").attr("x", -8).attr("y", 0).attr("width", 26).attr("height", 2 * RING - 20);
     it.append("line").attr("y1", 0).attr("y2", 2 * RING - 34);
@@ -226,13 +227,13 @@ function drawEnd(svg, rings, x) {
     return it;
   });
   handle.attr("transform", `translate(${x(rings.cycle)},${TOP})`).attr("aria-label", "Cycle").attr("aria-valuemin", 1)
-    .attr("aria-valuemax", 255).attr("aria-valuenow", rings.cycle / 10).attr("aria-valuetext", seconds(rings.cycle))
-    .on("keydown", (event) => {
-      const step = stepOf(event);
-      if (!step) return;
-      event.preventDefault();
-      edit(cycleChange(within(rings.cycle / 10 + step, 1, 255)), true);
-    });
+    .attr("aria-valuemax", 255).attr("aria-valuenow", rings.cycle / 10).attr("aria-valuetext", seconds(rings.cycle));
+  listen(handle, "keydown", (event) => {
+    const step = stepOf(event);
+    if (!step) return;
+    event.preventDefault();
+    edit(cycleChange(within(rings.cycle / 10 + step, 1, 255)), true);
+  });
   draggable(handle, () => ({ x, cycle: rings.cycle / 10, value: rings.cycle / 10 }), moveEnd, endEnd);
 }
 

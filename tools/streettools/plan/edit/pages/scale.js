@@ -41,10 +41,22 @@ function ticksOf(text) {
   return 10 * ((parts[0] || 0) * 3600 + (parts[1] || 0) * 60 + (parts[2] || 0));
 }
 
+// Returns a part of a drawing, made once: parts stay in the order in which they are made first.
+function layer(svg, name) {
+  return svg.selectAll(`g.${name}`).data([0]).join("g").attr("class", name);
+}
+
+// Calls a function with the event and the datum of each element: d3 gives events in another way in each of its versions.
+function listen(selection, kind, does) {
+  selection.each(function each(datum) {
+    this[`on${kind}`] = (event) => does(event, datum);
+  });
+}
+
 // Lets something be dragged: `begin` gives what is dragged or nothing, `move` takes it and the pixels of the way in
 // terms of the drawing, `end` takes it at last.
 function draggable(selection, begin, move, end) {
-  selection.on("pointerdown", (event, datum) => {
+  listen(selection, "pointerdown", (event, datum) => {
     if (event.button !== 0) return;
     const it = begin(datum, event);
     if (!it) return;
