@@ -100,7 +100,7 @@ class Editor:
         await asyncio.sleep(0.1)
         for page in list(self.pages):
             await page.socket.close()
-        self.shower.close()
+            page.slow.end()
 
     async def held(self, socket: web.WebSocketResponse) -> None:
         """Feeds the page at a socket, and does what it asks for, until it goes away."""

@@ -1,8 +1,13 @@
 """What a plan costs vehicles, by the model of queues (docs/QUEUES.md): delay, stops and queues before and after.
 
-The model runs in a process of its own, so that pages are answered meanwhile."""
+The model runs in a process of its own (`python3 -m streettools.plan.edit.measuring`), so that pages are answered
+meanwhile: it reads a job, writes its measures and ends."""
 
+import json
+import os
 import pathlib
+import pickle
+import sys
 from dataclasses import dataclass, replace
 from typing import Any
 
@@ -18,6 +23,8 @@ from .running import Asked, lead_of
 WARM, SEEDS = 300, (1, 2, 3)
 """Seconds at the beginning that aren't counted at least, and the seeds over which means are taken."""
 NAMES = ("delay", "stops")
+NICE = 5
+"""Lights come first, measures second."""
 
 
 @dataclass(frozen=True)
@@ -38,6 +45,11 @@ class Job:
     scenario: dict[str, Any]
     warm: int
     seconds: int
+
+
+def octets(program: str, job: Job) -> bytes:
+    """Returns what the process is given."""
+    return pickle.dumps((program, job))
 
 
 def job_of(traffic: Traffic, plan: Plan, asked: Asked) -> Job:
@@ -91,3 +103,17 @@ def mean(values: list[float | None]) -> float | None:
     """Returns a mean, None if a value is missing."""
     known = [it for it in values if it is not None]
     return round(sum(known) / len(known), 2) if known and len(known) == len(values) else None
+
+
+def main() -> None:
+    """Reads a job from standard input, as `octets` gives it, and writes its measures to standard output."""
+    os.nice(NICE)
+    program, job = pickle.load(sys.stdin.buffer)
+    json.dump(measured(program, job), sys.stdout)
+
+
+if __name__ == "__main__":
+    # the classes of a job are those of this module by its name
+    from streettools.plan.edit import measuring
+
+    measuring.main()

@@ -1,14 +1,16 @@
 """What pages are shown of a version: facts, runs of the program, checks and measures. Each is computed once, in threads
-and a process of their own, so that pages are answered meanwhile."""
+and processes of their own, so that pages are answered meanwhile."""
 
 import asyncio
-import concurrent.futures
-import multiprocessing
+import json
+import os
+import sys
 from collections import OrderedDict
 from collections.abc import Callable, Hashable
 from typing import Any
 
 from ...shared.fault import Fault
+from ...shared.program import HERE, end_group
 from .. import check, names, sources
 from . import facts, measuring, running
 from .measuring import Traffic
@@ -26,7 +28,8 @@ class Shower:
     def __init__(self, program: str, traffic: Traffic | None) -> None:
         self.program, self.traffic = program, traffic
         self.known: OrderedDict[Hashable, asyncio.Future[Any]] = OrderedDict()
-        self.pool: concurrent.futures.ProcessPoolExecutor | None = None
+        self.results: dict[Hashable, dict[str, Any]] = {}
+        self.turn = asyncio.Lock()
 
     async def once(self, key: Hashable, work: Callable[[], Any]) -> Any:
         """Returns the result of some work, which is done in a thread, and once for a key."""
@@ -60,21 +63,29 @@ class Shower:
             return None
         job = measuring.job_of(self.traffic, plan, asked)
         key = ("measures", repr(job.scenario), repr([it.travel for it in plan.names.intersections]))
-        if key not in self.known:
-            if self.pool is None:
-                made = multiprocessing.get_context("spawn")
-                self.pool = concurrent.futures.ProcessPoolExecutor(1, made)
-            loop = asyncio.get_running_loop()
-            self.known[key] = loop.run_in_executor(self.pool, measuring.measured, self.program, job)
-        found: dict[str, Any] = await asyncio.shield(self.known[key])
-        return found
+        if key not in self.results:
+            async with self.turn:
+                self.results[key] = await self.measured(measuring.octets(self.program, job))
+        return self.results[key]
 
-    def close(self) -> None:
-        """Ends the process of measures."""
-        if self.pool is not None:
-            for it in list((self.pool._processes or {}).values()):
-                it.terminate()
-            self.pool.shutdown(wait=False, cancel_futures=True)
+    async def measured(self, given: bytes) -> dict[str, Any]:
+        """Returns the measures of a job, which a process of its own finds out; it is ended with this task."""
+        pipe, folder = asyncio.subprocess.PIPE, os.pathsep.join(filter(None, (HERE, os.environ.get("PYTHONPATH"))))
+        process = await asyncio.create_subprocess_exec(
+            sys.executable, "-B", "-m", measuring.__name__, stdin=pipe, stdout=pipe, stderr=asyncio.subprocess.DEVNULL,
+            env={**os.environ, "PYTHONPATH": folder}, start_new_session=True,
+        )  # fmt: skip
+        try:
+            said, _ = await process.communicate(given)
+        finally:
+            if process.returncode is None:
+                end_group(process.pid)
+                await process.wait()
+        try:
+            found: dict[str, Any] = json.loads(said)
+        except ValueError:
+            return {"refused": f"the process that measures ended with status {process.returncode}"}
+        return found
 
 
 def first(plan: Plan, asked: Asked) -> int:

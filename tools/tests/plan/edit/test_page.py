@@ -172,10 +172,10 @@ def test_a_barrier_a_cycle_and_an_order_are_dragged(page):
     page.drop()
     page.has("split-2", 32)
     assert [page.value(f"split-{it}") for it in (3, 6, 7)] == ["13", "32", "13"]
-    page.hold("#cycle-handle path", page.pixels("rings", 10))
+    page.hold("#cycle-handle path", page.pixels("rings", -3))
     page.drop()
-    page.has("cycle-1", 100)
-    page.has("cycle-2", 100)
+    page.has("cycle-1", 87)
+    page.has("cycle-2", 87)
     page.hold("#slot-3 rect.body", page.pixels("rings", 25))
     page.drop()
     page.shows("said", "phase 4 before phase 3")
@@ -396,7 +396,7 @@ title = "Elm Street"
 [[cabinet]]
 number = 1
 movements = [
-  {name = "EBT", phase = 2, volume = 400, lanes = 2, to = "2 EBT"}, {name = "EBL", phase = 5, volume = 20},
+  {name = "EBT", phase = 2, volume = 400, lanes = 2, to = "2 EB"}, {name = "EBL", phase = 5, volume = 20},
   {name = "WBT", phase = 6, volume = 300, lanes = 2}, {name = "WBL", phase = 1, volume = 20},
   {name = "NBT", phase = 4, volume = 60}, {name = "NBL", phase = 7, volume = 20},
   {name = "SBT", phase = 8, volume = 60}, {name = "SBL", phase = 3, volume = 20},
@@ -404,7 +404,7 @@ movements = [
 [[cabinet]]
 number = 2
 movements = [
-  {name = "EBT", phase = 2, volume = 400, lanes = 2}, {name = "WBT", phase = 6, volume = 300, lanes = 2, to = "1 WBT"},
+  {name = "EBT", phase = 2, volume = 400, lanes = 2}, {name = "WBT", phase = 6, volume = 300, lanes = 2, to = "1 WB"},
   {name = "WBL", phase = 1, volume = 40}, {name = "NBL", phase = 4, volume = 60},
 ]
 """

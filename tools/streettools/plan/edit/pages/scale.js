@@ -53,9 +53,17 @@ function listen(selection, kind, does) {
   });
 }
 
+// Keeps the page from scrolling while something is dragged by touch: browsers don't do that for parts of a drawing.
+function withoutScrolling(event) {
+  event.preventDefault();
+}
+
 // Lets something be dragged: `begin` gives what is dragged or nothing, `move` takes it and the pixels of the way in
 // terms of the drawing, `end` takes it at last.
 function draggable(selection, begin, move, end) {
+  selection.each(function each() {
+    this.addEventListener("touchstart", withoutScrolling, { passive: false });
+  });
   listen(selection, "pointerdown", (event, datum) => {
     if (event.button !== 0) return;
     const it = begin(datum, event);
