@@ -216,7 +216,8 @@ def add_sending(part: argparse.ArgumentParser) -> None:
 
 def add_edit(parts) -> None:
     """Adds the part that opens the editor."""
-    part = add(parts, "edit", editing.do_edit, "open a page in the browser that shows a sheet and changes it", editing.EPILOG)
+    text = "open a page in the browser that shows a sheet and changes it"
+    part = add(parts, "edit", editing.do_edit, text, editing.EPILOG)
     editing.add_options(part)
 
 

@@ -18,6 +18,7 @@ from ..taking import start_of
 from . import changes, facts, orders, versions
 from .keeping import Kept
 from .orders import Drafted, Edit, Load, Save, Step, View
+from .plans import Plan
 from .running import Asked
 from .showing import Shower, first
 from .versions import Behind, Version
@@ -47,7 +48,7 @@ class Latest:
         """Does what waits."""
         while self.waiting is not None:
             work, self.waiting = self.waiting, None
-            with contextlib.suppress(Fault):
+            with contextlib.suppress(Fault, Wrong):
                 await work()
 
     def end(self) -> None:
@@ -209,7 +210,7 @@ class Editor:
         before = self.history.now
         if isinstance(order, Edit):
             self.history.ask(order.at)
-            page.quick.waiting = None
+            page.quick.ask(functools.partial(self.previewed, page, order, before.plan))
             version, notes = await asyncio.to_thread(self.history.changed, order.change)
             if version is not None:
                 self.history.add(version)
@@ -267,16 +268,18 @@ class Editor:
     # what a page is shown
 
     async def tried(self, page: Page, order: Edit) -> None:
-        """Shows a page a change that isn't made yet: where it ends, then the run of the program."""
-        try:
-            self.history.ask(order.at)
-            made = await asyncio.to_thread(changes.made, self.history.now.plan, order.change)
-        except Behind:
+        """Shows a page a change that isn't made yet."""
+        if order.at != self.history.now.number:
             page.say(tried=order.mark, refused=BEHIND)
             return
+        try:
+            await self.previewed(page, order, self.history.now.plan)
         except Wrong as wrong:
             page.say(tried=order.mark, refused=" ".join(str(wrong).split()))
-            return
+
+    async def previewed(self, page: Page, order: Edit, plan: Plan) -> None:
+        """Shows a page what a change makes of a plan: where it ends, then the run of the program."""
+        made = await asyncio.to_thread(changes.made, plan, order.change)
         pattern = page.asked.pattern or first(made.plan, page.asked)
         rows = facts.street(made.plan, page.asked.intersection, pattern)
         page.say(tried=order.mark, street=rows, label=made.label, notes=made.notes)

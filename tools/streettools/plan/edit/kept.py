@@ -7,10 +7,11 @@ from typing import Any
 
 import tomlkit
 
-from ...shared.cells import differing, value
+from ...shared.cells import differing, tables_of, value
 from ...shared.tables import Cell, Tables
-from .. import drawing, kept_text, reading, toml_text, writing
+from .. import drawing, kept_text, toml_text, writing
 from ..fields import PATTERN_FIELDS, PHASE_FIELDS, UNIT_FIELDS
+from ..reading import Street
 from .plans import Plan
 
 Row = MutableMapping[str, Any]
@@ -20,23 +21,16 @@ class NotInPlace(Exception):
     """A change can't be written in place."""
 
 
-def with_changes(text: str, before: Plan, after: Plan) -> tuple[str, bool]:
-    """Returns the text of a sheet after changes, and whether its comments and order were kept. A text in which the
-    changes can't be made in place is written from its values."""
-    try:
-        found = in_place(text, before, after)
-        if means(found, after):
-            return found, True
-    except NotInPlace:
-        pass
-    return toml_text.text(writing.sheet_of(after.written())), False
+def from_values(plan: Plan) -> str:
+    """Returns the text of a plan from its values, without comments: for changes that can't be made in place."""
+    return toml_text.text(writing.sheet_of(plan.written()))
 
 
-def means(text: str, aim: Plan) -> bool:
-    """Tells whether a text is the sheet of a plan."""
-    street, faults = reading.read_sheet(toml_text.read(text))
-    travels = [[it.travel for it in plan.intersections] for plan in (street.names, aim.names)]
-    return not faults and kept_text.tables_in(street) == kept_text.tables_in(aim.written()) and travels[0] == travels[1]
+def means(street: Street, aim: Plan) -> bool:
+    """Tells whether a street that was read is the one of a plan."""
+    travels = [[it.travel for it in names.intersections] for names in (street.names, aim.names)]
+    found = (tables_of(it) for it in street.scenario["cabinets"])
+    return travels[0] == travels[1] and not any(differing(*pair) for pair in zip(found, aim.tables, strict=True))
 
 
 def in_place(text: str, before: Plan, after: Plan) -> str:

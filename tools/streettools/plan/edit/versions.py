@@ -6,11 +6,12 @@ from ...shared.given import Defect, Unreadable, Wrong
 from .. import names, sources
 from ..findings import Finding
 from . import kept
-from .changes import Change, made
+from .changes import Change, Made, made
 from .plans import Plan, plan_of
 
 MOST = 500
 """How many versions are kept for undo; of more, the oldest is dropped."""
+UNKEPT = "the sheet is written from its values, and its comments are left out; undo brings them back"
 
 
 @dataclass(frozen=True)
@@ -76,16 +77,23 @@ class History:
         """Returns the version that a change makes of the current one, None if it changes nothing, and its notes; raises
         Wrong if the change can't be made. The history stays as it is."""
         found = made(self.now.plan, change)
-        text, is_kept = kept.with_changes(self.now.text, self.now.plan, found.plan)
-        if text == self.now.text:
-            return None, found.notes
-        notes = list(found.notes)
-        if not is_kept:
-            notes.append("the sheet is written from its values, and its comments are left out; undo brings them back")
+        version = self.in_place(found)
+        if version is not None:
+            return (None if version.text == self.now.text else version), found.notes
         try:
-            return read(self.count + 1, text, found.label), notes
+            version = read(self.count + 1, kept.from_values(found.plan), found.label)
         except Unreadable as fault:
             raise Wrong(f"the sheet can't hold this change: {fault}") from None
+        return version, [*found.notes, UNKEPT]
+
+    def in_place(self, found: Made) -> Version | None:
+        """Returns the version of a changed plan with its comments and order; None if it can't be written in place."""
+        try:
+            text = kept.in_place(self.now.text, self.now.plan, found.plan)
+            version = read(self.count + 1, text, found.label)
+        except (kept.NotInPlace, Unreadable):
+            return None
+        return version if kept.means(version.plan.street, found.plan) else None
 
     def change(self, change: Change) -> list[str]:
         """Makes a change to the current version, and returns its notes."""
