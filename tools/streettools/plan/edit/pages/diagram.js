@@ -3,7 +3,7 @@
 
 const GAP = 34;
 const TALLEST = 420;
-const LETTER = 6.6;
+const LETTER = 7.2;
 const LABEL = 90;
 const STEPS = [10, 15, 20, 30, 60, 120, 300, 600, 900];
 const USUAL_TRAVEL = 20;
@@ -112,6 +112,7 @@ function drawDiagram(id, drawing, edits) {
   const left = 16 + LETTER * Math.max(...rows.map((it) => it.name.length));
   const x = d3.scaleLinear().domain(spanOf(drawing)).range([Math.min(left, 0.4 * width), width - 16]);
   clipped(svg, id, x, height);
+  ["windows", "greens", "bands", "offsets"].forEach((name) => layer(svg, name));
   drawNames(svg, rows, heights, edits);
   drawWindows(svg, id, rows, heights, x, edits);
   drawGreens(svg, id, drawing, heights, x);

@@ -132,7 +132,7 @@ function showOrder(chosen) {
   if (by("swaps").dataset.key !== key) {
     by("swaps").dataset.key = key;
     by("swaps").replaceChildren(...swaps.map(([one, other]) => {
-      const it = made("button", "", `${other} before ${one}`);
+      const it = made("button", "", `serve ${other} before ${one}`);
       it.type = "button";
       it.id = `swap-${one}`;
       it.addEventListener("click", () => edit({ kind: "swap", phase: one }, true));
