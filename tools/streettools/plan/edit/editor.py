@@ -7,6 +7,7 @@ import json
 import os
 import pathlib
 from collections.abc import Awaitable, Callable
+from dataclasses import replace
 from typing import Any
 
 from aiohttp import WSMsgType, web
@@ -24,7 +25,7 @@ from .showing import Shower, first
 from .versions import Behind, Version
 
 WATCH, REST = 1.0, 0.4
-"""How often, in seconds, the file is looked at; how long a version must stand before it is measured."""
+"""How often, in seconds, the file is looked at; how long a version must be unchanged before it is measured."""
 MOST_LISTED = 100
 """How many of the last versions pages list."""
 BEHIND = "another page has changed the plan: look at it, and make your change again"
@@ -178,7 +179,8 @@ class Editor:
             else:
                 self.kept.keep(self.history.now.text)
         except OSError as fault:
-            raise Wrong(f"the draft can't be written: {fault.strerror}") from None
+            for page in self.pages:
+                page.say(refused=f"what isn't saved can't be kept in a draft: {fault.strerror}")
 
     # orders
 
@@ -189,8 +191,10 @@ class Editor:
         except Behind:
             page.say(refused=BEHIND, state=self.state())
             self.show(page)
-        except (Wrong, Fault, OSError) as fault:
+        except (Wrong, Fault) as fault:
             page.say(refused=" ".join(str(fault).split()))
+        except OSError as fault:
+            page.say(refused=f"{fault.filename or self.kept.path}: {fault.strerror}")
 
     async def obey(self, page: Page, order: orders.Order) -> None:
         """Does what a page asks for."""
@@ -289,8 +293,7 @@ class Editor:
     def show(self, page: Page) -> None:
         """Shows a page the current version."""
         version = self.history.now
-        if page.asked.pattern and page.asked.pattern not in version.plan.patterns():
-            page.asked = self.usual()
+        page.asked = fitting(page.asked, version.plan)
         page.quick.ask(lambda: self.shown(page, version))
         page.slow.ask(lambda: self.looked(page, version))
 
@@ -308,7 +311,8 @@ class Editor:
 
     async def looked(self, page: Page, version: Version) -> None:
         """Shows a page what takes longer: the version to compare with, checks, and measures once it rests."""
-        base, asked = self.base(page), page.asked
+        base = self.base(page)
+        asked = fitting(page.asked, base.plan)
         label = "the file" if base.text == self.history.saved else base.label
         drawn = await self.shower.facts(base.plan, asked)
         page.say(base=base.number, label=label, facts=drawn, **await self.shower.run(base.plan, asked))
@@ -317,8 +321,15 @@ class Editor:
             return
         await asyncio.sleep(REST)
         if page.slow.waiting is None:
-            found = [await self.shower.measures(it.plan, asked) for it in (base, version)]
+            found = [await self.shower.measures(it.plan, fitting(page.asked, it.plan)) for it in (base, version)]
             page.say(version=version.number, measures=found)
+
+
+def fitting(asked: Asked, plan: Plan) -> Asked:
+    """Returns what a page looks at, with an intersection and a pattern that the plan has."""
+    number = asked.intersection if asked.intersection in plan.numbers else 1
+    pattern = asked.pattern if asked.pattern in plan.patterns() else 0
+    return replace(asked, intersection=number, pattern=pattern)
 
 
 def signature(path: pathlib.Path) -> tuple[int, ...] | None:

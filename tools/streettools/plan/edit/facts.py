@@ -96,7 +96,7 @@ def chosen(plan: Plan, number: int, pattern: int) -> Facts:
     """Returns what the page has of the chosen intersection."""
     tables, known = plan.of(number), plan.names.intersection(number)
     found: Facts = {
-        "number": number, "name": plan.names.called(number), "patterns": tables.patterns(),
+        "number": number, "name": plan.names.called(number), "pattern": pattern, "patterns": tables.patterns(),
         "offset": value(tables, ("pattern", pattern, 3)), "cycle": value(tables, ("pattern", pattern, 2)),
         "phases": [phase_facts(tables, known, it) for it in tables.enabled()],
         "limits": {name: UNIT_FIELDS[name].show(value(tables, ("unit", UNIT_FIELDS[name].column))) for name in LIMITS},

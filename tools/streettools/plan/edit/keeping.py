@@ -3,6 +3,7 @@
 The draft is written after each change, only its owner can read it, and it is removed once the sheet is saved. A draft
 that is there as the editor starts is offered."""
 
+import errno
 import fcntl
 import hashlib
 import json
@@ -89,6 +90,8 @@ class Kept:
 
     def keep(self, text: str) -> None:
         """Writes the draft whole."""
+        if os.path.lexists(self.draft_path) and not stat.S_ISREG(os.lstat(self.draft_path).st_mode):
+            raise OSError(errno.EEXIST, f"{self.draft_path} isn't a regular file")
         said = {"version": 1, "of": digest(self.content), "text": text}
         with files.whole(self.draft_path, is_private=True) as name:
             pathlib.Path(name).write_text(json.dumps(said), encoding="utf-8")

@@ -135,8 +135,23 @@ def put_splits(row: Row, old: Tables, split: int, times: dict[int, int], partner
     """Puts splits into an intersection of a sheet."""
     found = next(rows_with_splits(row, old, split), None)
     if found is None:
-        raise NotInPlace
-    new = kept_text.put(found["splits"], times, partners)
+        new, found = standard_splits(old, split, times, partners), row_for_splits(row, old, split)
+    else:
+        new = kept_text.put(found["splits"], times, partners)
     if new is not None:
         found["splits"] = tomlkit.inline_table()
         found["splits"].update(new)
+
+
+def standard_splits(old: Tables, split: int, times: dict[int, int], partners: list[int]) -> dict[str, int] | None:
+    """Returns the splits of all phases where the sheet leaves them to the standard table."""
+    phases = [it for it in old.enabled() if it not in partners]
+    return {str(it): times.get(it, value(old, ("split", split, it, 3))) for it in phases}
+
+
+def row_for_splits(row: Row, old: Tables, split: int) -> Row:
+    """Returns the table of the first pattern that uses a split."""
+    pattern = next((it for it in old.patterns() if value(old, ("pattern", it, 4)) == split), None)
+    if pattern is None:
+        raise NotInPlace
+    return below(below(row, "pattern"), str(pattern))

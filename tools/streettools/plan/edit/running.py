@@ -24,7 +24,7 @@ MOST_LEAD = 45
 USUAL_TRAVEL = 20.0
 """The seconds to the next intersection where the sheet doesn't say them."""
 CALLS = ("all", "people", "sheet")
-"""Who calls the phases: a vehicle on each detector all the time; persons too, once in each minute; the events of the
+"""The calls of phases: a vehicle on each detector all the time; also persons, once in each minute; the events of the
 sheet."""
 
 

@@ -28,7 +28,7 @@ class Shower:
     def __init__(self, program: str, traffic: Traffic | None) -> None:
         self.program, self.traffic = program, traffic
         self.known: OrderedDict[Hashable, asyncio.Future[Any]] = OrderedDict()
-        self.results: dict[Hashable, dict[str, Any]] = {}
+        self.results: OrderedDict[Hashable, dict[str, Any]] = OrderedDict()
         self.turn = asyncio.Lock()
 
     async def once(self, key: Hashable, work: Callable[[], Any]) -> Any:
@@ -38,7 +38,11 @@ class Shower:
             while len(self.known) > MOST_KEPT:
                 self.known.popitem(last=False)
         self.known.move_to_end(key)
-        return await asyncio.shield(self.known[key])
+        try:
+            return await asyncio.shield(self.known[key])
+        except Fault:
+            self.known.pop(key, None)
+            raise
 
     async def facts(self, plan: Plan, asked: Asked) -> dict[str, Any]:
         """Returns what a page draws of a plan."""
@@ -66,6 +70,8 @@ class Shower:
         if key not in self.results:
             async with self.turn:
                 self.results[key] = await self.measured(measuring.octets(self.program, job))
+                while len(self.results) > MOST_KEPT:
+                    self.results.popitem(last=False)
         return self.results[key]
 
     async def measured(self, given: bytes) -> dict[str, Any]:

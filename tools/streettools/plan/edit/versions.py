@@ -1,29 +1,43 @@
 """The versions of a sheet that is edited: texts, what they mean, and the way back and forth between them."""
 
+import functools
 from dataclasses import dataclass
 
 from ...shared.given import Defect, Unreadable, Wrong
 from .. import names, sources
-from ..findings import Finding
 from . import kept
 from .changes import Change, Made, made
 from .plans import Plan, plan_of
 
 MOST = 500
 """How many versions are kept for undo; of more, the oldest is dropped."""
+KEPT = 8
+"""How many plans are kept."""
 UNKEPT = "the sheet is written from its values, and its comments are left out; undo brings them back"
+
+
+@functools.lru_cache(KEPT)
+def planned(text: str) -> Plan:
+    """Returns the plan of a sheet; raises Unreadable if the text isn't a sheet that can be drawn."""
+    source = sources.source_of("sheet.toml", text.encode(), names.Names)
+    if source.errors or source.street is None:
+        raise Unreadable([Defect(it.where, it.words) for it in source.errors])
+    return plan_of(source.street)
 
 
 @dataclass(frozen=True)
 class Version:
-    """A version: its number, which no other one has, its text, its plan, what changed, and what was found while the
-    text was read."""
+    """A version: its number, which no other one has, its text, and what changed. Its plan is read when it is asked
+    for, since many plans of a long street take much memory."""
 
     number: int
     text: str
-    plan: Plan
     label: str
-    findings: tuple[Finding, ...] = ()
+
+    @property
+    def plan(self) -> Plan:
+        """The plan of the text."""
+        return planned(self.text)
 
 
 class Behind(Exception):
@@ -32,10 +46,8 @@ class Behind(Exception):
 
 def read(number: int, text: str, label: str) -> Version:
     """Returns the version of a text; raises Unreadable if the text isn't a sheet that can be drawn."""
-    source = sources.source_of("sheet.toml", text.encode(), names.Names)
-    if source.errors or source.street is None:
-        raise Unreadable([Defect(it.where, it.words) for it in source.errors])
-    return Version(number, text, plan_of(source.street), label, tuple(source.findings))
+    planned(text)
+    return Version(number, text, label)
 
 
 @dataclass

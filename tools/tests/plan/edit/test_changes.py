@@ -116,6 +116,25 @@ def test_an_order_that_leaves_the_coordinated_phases_too_little_is_refused_by_ru
     assert [it.rule for it in rules.broken(history.now.plan.of(1))] == [19]
 
 
+def test_a_sheet_that_leaves_its_pattern_to_the_standard_table_gets_one_with_what_changes():
+    """The standard pattern 1 has 90 s: 15 s for each left turn and 30 s for each other phase."""
+    history = begun("# nothing else\n[[intersection]]\nname = \"A\"\n[[intersection]]\nname = \"B\"\n")
+    history.change(Change("offset", 2, value=9))
+    assert history.now.text.endswith('name = "B"\n\n[intersection.pattern.1]\noffset = 9\n')
+    history.change(Change("edge", 1, phase=1, value=2))
+    assert "splits = {1 = 17, 2 = 28, 3 = 15, 4 = 30, 5 = 15, 6 = 30, 7 = 15, 8 = 30}" in history.now.text
+    assert history.now.text.startswith("# nothing else\n")
+
+
+def test_a_row_of_several_patterns_is_kept_as_far_as_it_can_be():
+    text = SHEET.replace("[intersection.pattern.1]    # the morning", '[intersection.pattern."1 2"]')
+    text = text.replace("splits = {1 = 15, 2 = 30, 3 = 15, 4 = 30, 5 = 15, 6 = 30, 7 = 15, 8 = 30}\n", "")
+    history = begun(text)
+    history.change(Change("offset", 1, 2, value=9))
+    assert [it.pattern(2, 3) for it in history.now.plan.tables[:1]] == [9]
+    assert history.now.plan.of(1).pattern(1, 3) == 0 and "# measured twice" in history.now.text
+
+
 def test_phases_of_two_barrier_groups_dont_change_places():
     with pytest.raises(Wrong, match="phase 2 is the last of its ring in its barrier group"):
         begun().change(Change("swap", 1, phase=2))

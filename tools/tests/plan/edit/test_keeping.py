@@ -74,6 +74,19 @@ def test_a_draft_that_is_a_link_a_folder_or_a_pipe_is_not_read(sheet, tmp_path):
     assert kept.draft() is None
 
 
+def test_a_draft_is_not_written_into_what_is_not_a_regular_file(sheet, tmp_path):
+    """Anyone who may write to the folder could have put it there."""
+    draft, other = sheet.with_name("elm.toml.draft"), tmp_path / "other"
+    other.write_text("mine")
+    kept = Kept(str(sheet))
+    for make in (lambda: draft.symlink_to(other), lambda: os.mkfifo(draft)):
+        make()
+        with pytest.raises(OSError, match="isn't a regular file"):
+            kept.keep("title = 1")
+        draft.unlink()
+    assert other.read_text() == "mine"
+
+
 def test_a_second_editor_of_a_sheet_is_refused_also_after_it_was_saved(sheet):
     kept = Kept(str(sheet))
     with pytest.raises(Fault, match="is open in another editor"):

@@ -17,10 +17,10 @@ function say(text, isRefused) {
 
 // Asks for a change: tried while something moves, made at the end.
 function edit(change, isSet) {
-  if (!known.state || !known.view) return;
+  if (!known.state || !known.facts) return;
   known.mark += 1;
   known.moved = performance.now();
-  const whole = { intersection: known.view.intersection, pattern: known.view.pattern || known.state.usual.pattern || 1,
+  const whole = { intersection: known.view.intersection, pattern: known.facts.chosen.pattern,
     snap: by("snap").checked, ...change };
   if (!isSet) markStale();
   ask({ do: isSet ? "set" : "try", at: known.state.version, mark: known.mark, change: whole });
@@ -190,6 +190,7 @@ function takeVersion(told) {
   if (told.measures) known.measures = told.measures;
   if (told.facts) {
     known.facts = told.facts;
+    known.view.intersection = told.facts.chosen.number;
     known.tried = null;
   }
   if (told.run) known.shown = { run: told.run, bands: told.bands, stale: false };

@@ -201,7 +201,8 @@ function showMeasures() {
     for (const [key, words, unit] of names) rows.push(measureRow(`${words}, street`, before.street[key], now.street[key], unit, false));
     now.cabinets.forEach((it, at) => {
       const name = known.state.names[it.number - 1];
-      for (const [key, words, unit] of names) rows.push(measureRow(`${words}, ${name}`, before.cabinets[at][key], it[key], unit, false));
+      const old = before.cabinets[at] || {};
+      for (const [key, words, unit] of names) rows.push(measureRow(`${words}, ${name}`, old[key], it[key], unit, false));
     });
   }
   put(by("before-title"), `before: ${known.base.label || "the file"}`);
