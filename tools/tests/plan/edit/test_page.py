@@ -119,6 +119,7 @@ class Page:
 @pytest.fixture
 def page(driver, editor, sheet):
     """The page of an editor of the sheet; no error may be in the browser's log at the end."""
+    driver.get("about:blank")
     driver.get_log("browser")
     yield Page(driver, editor(sheet, "--port", 0).address())
     assert [it for it in driver.get_log("browser") if it["level"] == "SEVERE"] == []
@@ -245,6 +246,20 @@ def test_a_file_that_another_program_has_changed_is_asked_about(page, sheet):
     page.click("over")
     page.shows("kept", "elm.toml: saved")
     assert "offset = 31" in sheet.read_text()
+
+
+def test_a_file_with_fewer_intersections_is_taken(page, sheet):
+    page.click("choose-2")
+    page.shows("chosen-title", "Elm & Mill")
+    sheet.write_text(SHEET[: SHEET.index('[[intersection]]\nname = "Elm & Mill"')])
+    page.shows("kept", "another program has changed the file")
+    page.click("save")
+    page.shows("question", "Another program")
+    page.click("load")
+    page.shows("chosen-title", r"Elm & Oak \(intersection 1\)")
+    page.shows("bands", "bands need a pattern, and two intersections")
+    page.click("undo")
+    page.until(lambda: page.run("return document.querySelectorAll('#intersections tbody tr').length") == 2)
 
 
 def test_after_a_kill_the_draft_is_offered_and_nothing_is_changed_before_the_answer(driver, editor, sheet):
