@@ -166,6 +166,8 @@ def test_an_edge_stops_where_a_rule_would_be_broken_and_says_which(page):
     page.shows("bands", "the program doesn't run this plan: scenario: cabinet 1 breaks rule 18 at row 1")
     assert page.run("return document.querySelector('#slot-1 rect.frame').classList.contains('short')")
     page.shows("checks-count", "^1 error")
+    page.shows("spare-1", "⚠")
+    assert "minimum green 5" in page.run("return document.getElementById('spare-1').title")
 
 
 def test_a_barrier_a_cycle_and_an_order_are_dragged(page):
@@ -349,6 +351,18 @@ def test_pattern_time_and_calls_are_chosen(page):
     page.until(lambda: page.run("return known.shown.run.walks && known.shown.run.walks[4].length"))
     page.run("const it = document.getElementById('pattern'); it.value = '0'; it.dispatchEvent(new Event('change'))")
     page.shows("bands", "bands need a pattern")
+
+
+def test_each_section_has_its_diagram(driver, editor, tmp_path):
+    sheet = tmp_path / "sections.toml"
+    sheet.write_text(SHEET + '\n[[intersection]]\nname = "Pine & Oak"\nsection = 2\n')
+    page = Page(driver, editor(sheet).address())
+    rows = "return [...document.querySelectorAll('#diagram text.name')].map((it) => it.textContent)"
+    page.until(lambda: page.run(rows) == ["Elm & Oak", "Elm & Mill"])
+    chosen = "const it = document.getElementById('intersection'); it.value = '3'; it.dispatchEvent(new Event('change'))"
+    page.run(chosen)
+    page.until(lambda: page.run(rows) == ["Pine & Oak"])
+    page.shows("chosen-title", "Pine & Oak")
 
 
 def test_a_version_is_exported_for_other_programs(page):

@@ -112,6 +112,15 @@ function beginView(usual) {
   by("minutes").value = 10;
 }
 
+function showNames(names) {
+  const key = JSON.stringify(names);
+  if (by("intersection").dataset.key !== key) {
+    by("intersection").dataset.key = key;
+    by("intersection").replaceChildren(...names.map((it, at) => new Option(it, at + 1)));
+  }
+  by("intersection").value = String(known.view.intersection);
+}
+
 function showPatterns(patterns) {
   const options = [...patterns.map((it) => new Option(`pattern ${it}`, it)), new Option("by the schedule", 0)];
   const key = JSON.stringify(patterns);
@@ -153,6 +162,7 @@ function takeState(state) {
   if (isFirst) beginView(state.usual);
   if (known.view.pattern && !state.patterns.includes(known.view.pattern)) known.view.pattern = state.usual.pattern;
   showPatterns(state.patterns);
+  showNames(state.names);
   showVersions();
   showExports();
   askDraft(state.draft);
@@ -215,6 +225,7 @@ function show() {
   if (!known.facts || !known.state) return;
   const { street, chosen } = known.facts;
   drawDiagram("diagram", { rows: street, ...known.shown }, EDITS.offsets);
+  showNames(known.state.names);
   put(by("chosen-title"), `${chosen.name} (intersection ${chosen.number})`);
   showIntersections(street);
   showPhases(chosen);
@@ -333,6 +344,7 @@ by("undo").addEventListener("click", () => step(true));
 by("redo").addEventListener("click", () => step(false));
 by("save").addEventListener("click", save);
 for (const id of ["pattern", "time", "minutes", "calls", "settled", "other"]) by(id).addEventListener("change", readView);
+by("intersection").addEventListener("change", () => choose(Number(by("intersection").value)));
 for (const id of ["outbound", "inbound", "beside"]) by(id).addEventListener("change", show);
 window.addEventListener("keydown", shortcut);
 window.addEventListener("resize", () => { if (!known.drag) show(); });

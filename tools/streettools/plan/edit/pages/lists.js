@@ -121,9 +121,18 @@ function showPhases(chosen) {
     setField(`split-${phase.phase}`, slot && (slot.end - slot.start) / 10, Boolean(slot) && !phase.partner);
     for (const name of Object.keys(TIMES)) setField(`${name}-${phase.phase}`, phase[name], !phase.partner);
     const room = slot && (slot.coordinated ? chosen.rings.room : slot.room);
-    put(by(`spare-${phase.phase}`), phase.partner || room === undefined || room === null ? "–" : seconds(room));
-    by(`spare-${phase.phase}`).className = room < 0 ? "worse" : "";
+    const found = checksOf(phase.phase);
+    const spare = by(`spare-${phase.phase}`);
+    put(spare, (phase.partner || room === undefined || room === null ? "–" : seconds(room)) + (found.length ? " ⚠" : ""));
+    spare.className = room < 0 ? "worse" : "";
+    spare.title = found.map((it) => it.words).join("\n");
   }
+}
+
+// What the check finds of a phase of the chosen intersection.
+function checksOf(phase) {
+  const named = new RegExp(`\\bphase ${phase}\\b`);
+  return known.checks.filter((it) => it.number === known.view.intersection && it.level !== "note" && named.test(it.words));
 }
 
 function showOrder(chosen) {
