@@ -85,6 +85,13 @@ class Page:
         field.send_keys(Keys.CONTROL, "a")
         field.send_keys(str(value), Keys.ENTER)
 
+    def set(self, name, value):
+        """Types a value into a field, and waits until the change is made."""
+        before = self.version()
+        self.type(name, value)
+        self.until(lambda: self.version() != before)
+        self.has(name, value)
+
     def pixels(self, drawing, seconds):
         """Returns how many pixels of a drawing some seconds take."""
         if drawing == "rings":
@@ -160,8 +167,7 @@ def test_an_edge_stops_where_a_rule_would_be_broken_and_says_which(page):
     page.has("split-1", 10)
     page.has("split-2", 35)
     page.click("snap")
-    page.type("split-1", 8)
-    page.has("split-1", 8)
+    page.set("split-1", 8)
     page.shows("chosen-checks", "error, rule 18")
     page.shows("bands", "the program doesn't run this plan: scenario: cabinet 1 breaks rule 18 at row 1")
     assert page.run("return document.querySelector('#slot-1 rect.frame').classList.contains('short')")
@@ -189,8 +195,7 @@ def test_a_barrier_a_cycle_and_an_order_are_dragged(page):
 
 
 def test_what_is_typed_and_saved_keeps_comments_and_is_there_after_a_reload(page, sheet):
-    page.type("offset-2", 25)
-    page.has("offset-2", 25)
+    page.set("offset-2", 25)
     page.type("yellow-2", 4.2)
     page.shows("said", "phase 2, yellow: 4.0 to 4.2 s")
     assert sheet.read_text() == SHEET
@@ -216,8 +221,7 @@ def test_two_pages_show_the_same_plan(page):
     driver, first = page.driver, page.driver.current_window_handle
     driver.switch_to.new_window("window")
     other = Page(driver, page.address)
-    other.type("offset-1", 7)
-    other.has("offset-1", 7)
+    other.set("offset-1", 7)
     other.shows("kept", "2 pages are open")
     driver.switch_to.window(first)
     page.has("offset-1", 7)
@@ -230,8 +234,7 @@ def test_two_pages_show_the_same_plan(page):
 
 
 def test_a_file_that_another_program_has_changed_is_asked_about(page, sheet):
-    page.type("offset-2", 31)
-    page.has("offset-2", 31)
+    page.set("offset-2", 31)
     sheet.write_text(SHEET.replace("offset = 40", "offset = 33"))
     page.shows("kept", "another program has changed the file")
     page.click("save")
@@ -289,8 +292,7 @@ def test_after_a_kill_the_draft_is_offered_and_nothing_is_changed_before_the_ans
 def test_an_editor_that_ends_with_changes_says_where_they_are_and_a_draft_can_be_dropped(driver, editor, sheet):
     first = editor(sheet)
     page = Page(driver, first.address())
-    page.type("offset-2", 22)
-    page.has("offset-2", 22)
+    page.set("offset-2", 22)
     assert first.end() == 0
     assert first.said[-1] == f"plan: what isn't saved is in {sheet}.draft; the next start of the editor offers it"
     page = Page(driver, editor(sheet).address())
@@ -332,8 +334,7 @@ def test_an_offset_is_dragged_by_touch(page):
 
 
 def test_two_versions_are_compared_side_by_side(page):
-    page.type("offset-2", 20)
-    page.has("offset-2", 20)
+    page.set("offset-2", 20)
     page.click("beside")
     page.shows("other-title", "Before: the file")
     rows = "return [...document.querySelectorAll('#measures tbody tr')].map((it) => it.innerText.split('\\t'))"
@@ -366,8 +367,7 @@ def test_each_section_has_its_diagram(driver, editor, tmp_path):
 
 
 def test_a_version_is_exported_for_other_programs(page):
-    page.type("offset-2", 20)
-    page.has("offset-2", 20)
+    page.set("offset-2", 20)
     found = {}
     for kind in ("sheet", "scenario", "utdf", "loads"):
         with urllib.request.urlopen(page.run(f"return document.getElementById('export-{kind}').href")) as answer:
