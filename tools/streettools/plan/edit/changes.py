@@ -70,10 +70,15 @@ def laid_of(plan: Plan, change: Change) -> Layout:
     tables = plan.of(change.intersection)
     if change.pattern not in tables.patterns():
         raise Wrong(f"{plan.names.called(change.intersection)} has no pattern {change.pattern}")
-    if any(it.rule < 10 or it.rule == 14 for it in rules.broken(tables)):
-        raise Wrong(f"{plan.names.called(change.intersection)}: its rings and sequences break a rule: correct these "
-                    "in the sheet first")  # fmt: skip
+    refuse_undrawn(plan, change.intersection)
     return Layout(tables, change.pattern)
+
+
+def refuse_undrawn(plan: Plan, number: int) -> None:
+    """Refuses to change patterns of an intersection whose rings can't be drawn."""
+    if any(it.rule < 10 or it.rule == 14 for it in rules.broken(plan.of(number))):
+        raise Wrong(f"{plan.names.called(number)}: its rings and sequences break a rule: correct these in the sheet "
+                    "first")  # fmt: skip
 
 
 def whole(number: float, least: int, most: int, what: str) -> int:
@@ -187,6 +192,8 @@ def of_cycle(plan: Plan, change: Change) -> Made:
     numbers = [it for it in numbers if change.pattern in plan.of(it).patterns()]
     if not numbers:
         raise Wrong(f"no intersection has pattern {change.pattern}")
+    for it in numbers:
+        refuse_undrawn(plan, it)
     notes: list[str] = []
     try:
         changed = cycled(plan, change.pattern, numbers, after)

@@ -1,6 +1,6 @@
 """What the program makes of a plan: the lights of its cabinets in a run, and the bands of their plan.
 
-All times are ticks since midnight of the day on which the shown time begins, by the clock of the run."""
+All times are ticks since midnight of the day on which the shown time begins, as the run's clock counts."""
 
 import json
 from dataclasses import dataclass, field
