@@ -414,6 +414,8 @@ def test_a_print_has_the_drawings_and_no_buttons(page):
     try:
         hidden = "return ['undo', 'pattern', 'said'].every((id) => !document.getElementById(id).offsetParent)"
         assert page.run(hidden)
+        assert page.text("title") == "Elm Street"
+        assert page.text("diagram-title") == "Now: pattern 1, 10 minutes from 07:00:00"
         assert page.run("return document.getElementById('diagram').getBoundingClientRect().height") > 50
         assert len(page.driver.print_page()) > 10_000
     finally:

@@ -226,6 +226,8 @@ function show() {
   const { street, chosen } = known.facts;
   drawDiagram("diagram", { rows: street, ...known.shown }, EDITS.offsets);
   showNames(known.state.names);
+  const { pattern, time, minutes } = known.view;
+  put(by("diagram-title"), `Now: ${pattern ? `pattern ${pattern}` : "by the schedule"}, ${minutes} minutes from ${clock(10 * time)}`);
   put(by("chosen-title"), `${chosen.name} (intersection ${chosen.number})`);
   showIntersections(street);
   showPhases(chosen);
