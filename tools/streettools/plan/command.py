@@ -5,6 +5,7 @@ import argparse
 from ..shared.clock import daytime
 from ..shared.commandline import Parser, add_json, add_output, add_program, number
 from . import actions
+from .edit import command as editing
 
 EPILOG = """examples:
   ./arterial plan new "Main St & 1st Ave" "Main St & Oak Ave=t" -o street.toml    # a sheet to start from
@@ -12,6 +13,7 @@ EPILOG = """examples:
   ./arterial plan day street.toml 2026-12-24 -o day.json   # the scenario of a day, by the sheet's day plans
   ./arterial plan sheet street.json > street.toml          # and back, without loss
   ./arterial plan sheet street.toml -o street.xlsx         # the sheet as a workbook, a page for each intersection
+  ./arterial plan edit street.toml                         # a page that shows it, and changes it by the mouse
   ./arterial plan check street.toml                        # what is wrong with it, in words
   ./arterial plan check --fix street.toml                  # and the smallest change of splits that corrects it
   ./arterial run < street.json 2>&1 > trace | ./arterial plan explain - street.json
@@ -212,6 +214,13 @@ def add_sending(part: argparse.ArgumentParser) -> None:
     part.add_argument("--anywhere", action="store_true", help="let devices be set that are not on this machine")
 
 
+def add_edit(parts) -> None:
+    """Adds the part that opens the editor."""
+    text = "open a page in the browser that shows a sheet and changes it"
+    part = add(parts, "edit", editing.do_edit, text, editing.EPILOG)
+    editing.add_options(part)
+
+
 def add_checks(parts) -> None:
     """Adds the parts that report what is wrong."""
     part = add(
@@ -299,6 +308,7 @@ def parser() -> argparse.ArgumentParser:
     parts = whole.add_subparsers(dest="part", metavar="COMMAND", required=True)
     add_start(parts)
     add_conversions(parts)
+    add_edit(parts)
     add_products(parts)
     add_checks(parts)
     add_exchange(parts)

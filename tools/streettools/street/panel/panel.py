@@ -9,7 +9,7 @@ from typing import Any
 from aiohttp import WSMsgType, web
 
 from ...cabinet.messages import GET, message
-from ...shared import oids
+from ...shared import oids, pages
 from ...shared.fault import Fault
 from ...shared.status import Status
 from ..line import Line
@@ -22,8 +22,6 @@ from .streams import STAYS, Streams
 
 EVERY, DETAILS_EVERY, GREENS_EVERY = 0.2, 0.5, 2.0
 """How often, in seconds, pages get news, details of the cabinet that they look at, and greens."""
-MOST_WAITING = 40
-"""How many texts may wait for a page before it is dropped."""
 DETAILS = {
     "command": oids.CONTROL,
     "status": oids.STATUS,
@@ -39,29 +37,14 @@ DETAILS = {
 """What a page gets of the cabinet that it looks at, read as management software reads it."""
 
 
-class Page:
-    """A page that is open: its socket, the texts that wait for it, the cabinet that it looks at."""
+class Page(pages.Page):
+    """A page that is open, and the cabinet that it looks at."""
 
     def __init__(self, socket: web.WebSocketResponse) -> None:
-        self.socket = socket
-        self.waiting: asyncio.Queue[str] = asyncio.Queue(MOST_WAITING)
+        super().__init__(socket)
         self.cabinet = 0
         self.known = (0, 0)
         self.is_new = True
-        self.dropping: asyncio.Task[bool] | None = None
-
-    def tell(self, text: str) -> None:
-        """Queues a text for the page; a page that doesn't read is dropped."""
-        try:
-            self.waiting.put_nowait(text)
-        except asyncio.QueueFull:
-            self.dropping = self.dropping or asyncio.create_task(self.socket.close())
-
-    async def write(self) -> None:
-        """Sends what waits, until the page goes away."""
-        with contextlib.suppress(ConnectionError, RuntimeError):
-            while True:
-                await self.socket.send_str(await self.waiting.get())
 
 
 class Panel(Hearer):

@@ -1,4 +1,4 @@
-"""The panel's access control: connections, and what they must bring."""
+"""Access control of pages that a tool serves: connections, and what they must bring."""
 
 import asyncio
 import errno
@@ -7,17 +7,18 @@ import hmac
 import re
 import resource
 import secrets
+from collections.abc import Callable
 from typing import Any
 
 from aiohttp import web
 
-from ...shared import saying
+from . import saying
 
 LOOPBACK_NAMES = ("localhost", "127.0.0.1", "[::1]")
 FIRST_SECONDS = 10.0
 """How long a connection may take until it is a page's web socket. A browser opens another one when it needs it."""
 MOST_ASKING, SPARE = 64, 64
-"""How many connections may be open that don't belong to a page; how many files are left to the rest of the street."""
+"""How many connections may be open that don't belong to a page; how many files are left to the rest of the tool."""
 NO_FILES = (errno.EMFILE, errno.ENFILE)
 
 
@@ -30,15 +31,15 @@ class Door:
 
     def is_here(self, header: str | None) -> bool:
         """Tells whether a Host header names this machine, by loopback or as it is called from elsewhere: a page of
-        another site can't then speak to the panel in the browser's name."""
+        another site can't then speak to the tool in the browser's name."""
         return re.sub(r":\d{1,5}$", "", (header or "").lower()) in self.names
 
     def is_its_own(self, origin: str | None, host: str | None) -> bool:
-        """Tells whether an Origin header is that of the panel's own pages."""
+        """Tells whether an Origin header is that of the tool's own pages."""
         return host is not None and origin in (f"http://{host}", f"https://{host}")
 
     def has_token(self, token: str) -> bool:
-        """Tells whether a token is the one of the address that the street prints."""
+        """Tells whether a token is the one of the address that the tool prints."""
         return hmac.compare_digest(token.encode(), self.token.encode())
 
 
@@ -90,15 +91,20 @@ class Connection(web.RequestHandler):
             self.transport.abort()
 
 
-def said_once(loop: asyncio.AbstractEventLoop, context: dict[str, Any]) -> None:
-    """Handles an unhandled fault of an event loop: that no more files can be opened is printed once."""
-    if getattr(context.get("exception"), "errno", None) not in NO_FILES:
-        loop.default_exception_handler(context)
-    else:
-        say_no_files()
+def said_once(command: str, what: str) -> Callable[[asyncio.AbstractEventLoop, dict[str, Any]], None]:
+    """Returns a handler of the unhandled faults of an event loop: that no more files can be opened, so that `what`
+    takes no connection, is printed once in the name of a command."""
+
+    def handle(loop: asyncio.AbstractEventLoop, context: dict[str, Any]) -> None:
+        if getattr(context.get("exception"), "errno", None) not in NO_FILES:
+            loop.default_exception_handler(context)
+        else:
+            say_no_files(command, what)
+
+    return handle
 
 
 @functools.cache
-def say_no_files() -> None:
+def say_no_files(command: str, what: str) -> None:
     """Prints that no more files can be opened."""
-    saying.say("street", "too many files are open: the panel takes no connection until some are closed")
+    saying.say(command, f"too many files are open: {what} takes no connection until some are closed")
