@@ -1,0 +1,99 @@
+"""Stretches of a cabinet's rows within which time rises and nothing is missing: rows are put in order, duplicates are
+dropped, and a stretch ends where the clock is set back, where there are no rows for long, and in flash."""
+
+from collections.abc import Iterator
+from typing import Any
+
+import numpy as np
+
+from ..shared import event_codes as codes
+from . import times
+from .findings import Findings
+
+JUMP = 20
+"""A row this many ticks before the one above it is out of order, or the clock was set back."""
+AFTER_JUMP = 20
+"""The clock was set back if this many rows after the jump stay before it."""
+MOST_JUMPS = 1000
+"""If there are more jumps than one in this many rows, and more than ten, the log isn't in the order of time at all."""
+
+
+def back_steps(ticks: Any) -> Any:
+    """Returns the places of rows whose time is before that of the row above."""
+    return np.flatnonzero(np.diff(ticks) < 0) + 1
+
+
+def jumps_of(ticks: Any, back: Any) -> list[int]:
+    """Returns the places at which the clock was set back."""
+    found = []
+    for at in back:
+        before = ticks[at - 1]
+        later = ticks[at : at + AFTER_JUMP]
+        if before - ticks[at] > JUMP and later.max() < before:
+            found.append(int(at))
+    return found
+
+
+def runs(rows: Any, cabinet: int, findings: Findings) -> Iterator[Any]:
+    """Yields the rows between the times at which the clock was set back, each in the order of time."""
+    ticks = rows["tick"]
+    back = back_steps(ticks)
+    jumps = jumps_of(ticks, back)
+    if len(jumps) > max(10, len(rows) // MOST_JUMPS):
+        jumps = []
+    in_order = [int(at) for at in back if int(at) not in set(jumps)]
+    if in_order:
+        findings.add("order", where(ticks[in_order[0]]), cabinet, len(in_order))
+    for at in jumps:
+        findings.add("jump", f"{where(ticks[at - 1])} to {where(ticks[at])}", cabinet)
+    for part in np.split(rows, jumps):
+        yield part[np.argsort(part["tick"], kind="stable")] if in_order else part
+
+
+def without_duplicates(rows: Any, cabinet: int, findings: Findings) -> Any:
+    """Returns rows in the order of time without those that are there twice."""
+    order = np.lexsort((rows["parameter"], rows["code"], rows["tick"]))
+    ordered = rows[order]
+    twice = np.zeros(len(rows), bool)
+    twice[order[1:]] = ordered[1:] == ordered[:-1]
+    if twice.any():
+        findings.add("duplicate", where(rows["tick"][np.argmax(twice)]), cabinet, int(twice.sum()))
+    return rows[~twice]
+
+
+def where(tick: int) -> str:
+    """Returns the time of day of a tick."""
+    return times.time_text(int(tick))
+
+
+def length_text(ticks: int) -> str:
+    """Returns a length of time in words."""
+    return f"{ticks // 600} min" if ticks >= 1200 else f"{ticks // 10} s"
+
+
+def pieces(rows: Any, hole: int, cabinet: int, findings: Findings) -> Iterator[Any]:
+    """Yields the rows between holes and times in flash; rows in flash are left out."""
+    ticks = rows["tick"]
+    flash = rows["code"] == codes.FLASH_STATUS_CHANGE
+    cuts = set((np.flatnonzero(np.diff(ticks) > hole) + 1).tolist())
+    for at in sorted(cuts):
+        lasted = int(ticks[at] - ticks[at - 1])
+        findings.add("hole", f"{length_text(lasted)} from {where(ticks[at - 1])}", cabinet)
+    begun = 0
+    in_flash = False
+    for at in sorted({*cuts, *np.flatnonzero(flash).tolist(), len(rows)}):
+        if at > begun and not in_flash:
+            yield rows[begun:at]
+        begun = at
+        if at < len(rows) and flash[at]:
+            in_flash = int(rows["parameter"][at]) not in (codes.NOT_FLASH, 0)
+            if in_flash:
+                findings.add("flash", where(ticks[at]), cabinet)
+        elif at in cuts:
+            in_flash = False
+
+
+def stretches(rows: Any, hole: int, cabinet: int, findings: Findings) -> Iterator[Any]:
+    """Yields the stretches of a cabinet's rows; `hole` is how many ticks without a row are a hole."""
+    for run in runs(rows, cabinet, findings):
+        yield from pieces(without_duplicates(run, cabinet, findings), hole, cabinet, findings)
