@@ -71,26 +71,29 @@ def length_text(ticks: int) -> str:
     return f"{ticks // 600} min" if ticks >= 1200 else f"{ticks // 10} s"
 
 
+def cuts_of(rows: Any, hole: int, cabinet: int, findings: Findings) -> dict[int, bool]:
+    """Returns the places at which a stretch may begin, and whether the cabinet is in flash from there on. Rows at the
+    tick at which flash begins are those of how it is reached."""
+    ticks = rows["tick"]
+    cuts = {0: False}
+    for at in (np.flatnonzero(np.diff(ticks) > hole) + 1).tolist():
+        cuts[at] = False
+        findings.add("hole", f"{length_text(int(ticks[at] - ticks[at - 1]))} from {where(ticks[at - 1])}", cabinet)
+    for at in np.flatnonzero(rows["code"] == codes.FLASH_STATUS_CHANGE).tolist():
+        in_flash = int(rows["parameter"][at]) not in (codes.NOT_FLASH, 0)
+        cuts[int(np.searchsorted(ticks, ticks[at], "right" if in_flash else "left"))] = in_flash
+        if in_flash:
+            findings.add("flash", where(ticks[at]), cabinet)
+    return cuts
+
+
 def pieces(rows: Any, hole: int, cabinet: int, findings: Findings) -> Iterator[Any]:
     """Yields the rows between holes and times in flash; rows in flash are left out."""
-    ticks = rows["tick"]
-    flash = rows["code"] == codes.FLASH_STATUS_CHANGE
-    cuts = set((np.flatnonzero(np.diff(ticks) > hole) + 1).tolist())
-    for at in sorted(cuts):
-        lasted = int(ticks[at] - ticks[at - 1])
-        findings.add("hole", f"{length_text(lasted)} from {where(ticks[at - 1])}", cabinet)
-    begun = 0
-    in_flash = False
-    for at in sorted({*cuts, *np.flatnonzero(flash).tolist(), len(rows)}):
-        if at > begun and not in_flash:
-            yield rows[begun:at]
-        begun = at
-        if at < len(rows) and flash[at]:
-            in_flash = int(rows["parameter"][at]) not in (codes.NOT_FLASH, 0)
-            if in_flash:
-                findings.add("flash", where(ticks[at]), cabinet)
-        elif at in cuts:
-            in_flash = False
+    cuts = cuts_of(rows, hole, cabinet, findings)
+    places = [*sorted(it for it in cuts if it < len(rows)), len(rows)]
+    for begin, end in zip(places, places[1:]):
+        if not cuts[begin]:
+            yield rows[begin:end]
 
 
 def stretches(rows: Any, hole: int, cabinet: int, findings: Findings) -> Iterator[Any]:
