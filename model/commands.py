@@ -1,7 +1,7 @@
 """What each command of the program's words reads and writes, and its exit status.
 
-`live` and `judge` answer each line before they read on; every other command reads all of its input first. docs/COMMANDS.md;
-docs/SCENARIO.md, "What is refused, and how"; docs/TRACE.md, "Checking a trace".
+`live` and `judge` answer each line before they read on; every other command reads all of its input first.
+docs/COMMANDS.md; docs/SCENARIO.md, "What is refused, and how"; docs/TRACE.md, "Checking a trace".
 """
 
 import os
@@ -96,7 +96,7 @@ def streamed(command: given.Live | given.Judge, read: Callable[[], bytes], write
     except LineRefused as fault:
         return refused(Status.NOT_A_TRACE, f"log: {fault}")
     except Breaches:
-        return refused(Status.UNSAFE, "log: breaches")
+        return refused(Status.UNSAFE, "log: not safe")
     return Answer(Status.DONE)
 
 

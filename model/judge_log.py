@@ -5,32 +5,33 @@ docs/JUDGE.md. A log has lines of a trace; only its F lines and the L lines of a
 
 from collections.abc import Callable, Iterator
 from dataclasses import dataclass
-from enum import IntEnum
+from enum import Enum
 
 from model.judge import CabinetLog, Terms, line_breaches, overruns
 from model.lines import is_line
 from model.live import Lines
+from model.requests import LONGEST_LINE
 from model.promises.told import seen_in
 from model.scenario import Scenario
 from model.scenario_read import MOST_BYTES, read_scenario
-from model.shapes import Refused
+from model.shapes import Refused, limit_fault
 
 
-class Kind(IntEnum):
-    """Why a line is refused."""
+class Kind(Enum):
+    """Why a line is refused, in words."""
 
-    NOT_A_LINE = 1
-    CABINET = 2
-    TICK = 3
-    FRAME_VERSION = 4
-    LOAD_VERSION = 5
+    NOT_A_LINE = "is not a line of a trace"
+    CABINET = "is of a cabinet that the scenario does not have"
+    TICK = "is not later than the frame before it"
+    FRAME_VERSION = "has a version other than the number of accepted loads"
+    LOAD_VERSION = "has a version other than the next one"
 
 
 class LineRefused(Exception):
     """A line of a log is refused: its number, and why."""
 
     def __init__(self, line: int, kind: Kind) -> None:
-        super().__init__(f"line {line} breaks rule {int(kind)}")
+        super().__init__(f"line {line} {kind.value}")
 
 
 @dataclass
@@ -101,9 +102,11 @@ class Judging:
 
 
 def scenario_of(line: bytes) -> Scenario:
-    """Returns the scenario of the first line."""
+    """Returns the scenario of the first line, which follows `S `."""
+    if len(line) > MOST_BYTES:
+        raise limit_fault(".")
     if line[:2] != b"S ":
-        raise LineRefused(1, Kind.NOT_A_LINE)
+        raise Refused("not JSON")
     return read_scenario(line[2:])
 
 
@@ -112,19 +115,14 @@ class Breaches(Exception):
 
 
 def judge(read: Callable[[], bytes], terms: Terms) -> Iterator[bytes]:
-    """Yields what is written for each line of the input in turn; raises `Breaches` at its end if there are some."""
+    """Yields what is written for each line of the input in turn; raises `Breaches` at its end if there are some. Lines
+    that are longer than any F or L line are ignored, and so are bytes after the last newline."""
     lines = Lines(read)
-    first = lines.next(MOST_BYTES + 2)
-    if not first.is_ended:
-        raise LineRefused(1, Kind.NOT_A_LINE)
-    judging, number = Judging(scenario_of(first.octets), terms), 1
-    while True:
-        number, line = number + 1, lines.next(MOST_BYTES)
-        if not line.is_ended:
-            if line.octets:
-                raise LineRefused(number, Kind.NOT_A_LINE)
-            break
-        yield "".join(f"{it}\n" for it in judging.line(line.octets, number)).encode()
+    judging, number = Judging(scenario_of(lines.next(MOST_BYTES).octets), terms), 1
+    while (line := lines.next(LONGEST_LINE)).is_ended:
+        number += 1
+        if len(line.octets) <= LONGEST_LINE:
+            yield "".join(f"{it}\n" for it in judging.line(line.octets, number)).encode()
     yield "".join(f"{it}\n" for it in judging.end()).encode()
     if judging.count:
         raise Breaches

@@ -26,9 +26,9 @@ def expected(it):
     """Returns the exit status, standard output and standard error that a case expects."""
     output = "".join(f"{line}\n" for line in it["output"]).encode()
     if "refused" in it:
-        return LINE_REFUSED, output, "log: line {} breaks rule {}\n".format(*it["refused"]).encode()
+        return LINE_REFUSED, output, "log: line {} {}\n".format(*it["refused"]).encode()
     if any(line.startswith("B ") for line in it["output"]):
-        return UNSAFE, output, b"log: breaches\n"
+        return UNSAFE, output, b"log: not safe\n"
     return DONE, output, b""
 
 

@@ -68,7 +68,20 @@ def test_other_words_are_refused(words):
 
 
 @pytest.mark.parametrize(
-    ("text", "status"), [(b"", 5), (b"S {}", 5), (b"F 1 0\n", 5), (b"S {}\n", 2), (b"S no\n", 2)]
+    ("text", "said"),
+    [
+        (b"", b"scenario: not JSON\n"),
+        (b"F 1 0\n", b"scenario: not JSON\n"),
+        (b"S no\n", b"scenario: not JSON\n"),
+        (b"S {}\n", b"scenario: field .version\n"),
+        (b"S " + b" " * 16_777_215, b"scenario: limit .\n"),
+    ],
 )
-def test_a_first_line_without_a_scenario_is_refused(text, status):
-    assert answer(["judge"], text).status == status
+def test_a_first_line_without_a_scenario_is_refused(text, said):
+    told = answer(["judge"], text)
+    assert (told.status, told.output, told.said) == (2, b"", said)
+
+
+def test_bytes_after_the_last_newline_are_ignored():
+    text = b'S {"version":1,"rounds":1,"ticks":1,"cabinets":[{}]}'
+    assert answer(["judge"], text).output == answer(["judge"], text + b"\nF 1 0 nonsense").output == b"Z 1 0\n"
