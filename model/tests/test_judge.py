@@ -73,7 +73,7 @@ def test_other_words_are_refused(words):
         (b"", b"scenario: not JSON\n"),
         (b"F 1 0\n", b"scenario: not JSON\n"),
         (b"S no\n", b"scenario: not JSON\n"),
-        (b"S {}\n", b"scenario: field .version\n"),
+        (b"S {}\n", b"scenario: field version\n"),
         (b"S " + b" " * 16_777_215, b"scenario: limit .\n"),
     ],
 )

@@ -30,7 +30,30 @@ def read(words: argparse.Namespace) -> int:
     return Status.DONE
 
 
-DOES = {"read": read}
+def judge(words: argparse.Namespace) -> int:
+    """Reports the breaches of a log, and writes its page."""
+    import os
+    import tempfile
+
+    from ..shared import files
+    from . import judging, reading, sentences, summary
+
+    program = judging.program_of(words.program)
+    with tempfile.TemporaryDirectory(prefix="arterial-log-") as room, reading.opened(asked_of(words)) as log:
+        parts = reading.write(log, os.path.join(room, "log.indications"))
+        told = sentences.told(log.plan, log.midnight, parts, judging.judged(program, parts, words.tolerance))
+        if words.page:
+            from . import page
+
+            page.write(log, parts, told, words.page)
+        for line in log.sentences():
+            say("log", line)
+        with files.output(words.output) as out:
+            out.write((summary.as_json if words.json else summary.text)(log, told, words.tolerance))
+    return judging.UNSAFE if told else Status.DONE
+
+
+DOES = {"read": read, "judge": judge}
 
 
 def main(arguments: list[str]) -> int:
