@@ -53,7 +53,47 @@ def judge(words: argparse.Namespace) -> int:
     return judging.UNSAFE if told else Status.DONE
 
 
-DOES = {"read": read, "judge": judge}
+def replay(words: argparse.Namespace) -> int:
+    """Writes the scenario of a log."""
+    from . import reading, spans
+    from . import replay as replays
+
+    with reading.opened(asked_of(words)) as log:
+        found = replays.replayed(log, spans.span_of(log, words.first, words.last), words.priority)
+        replays.write(found, words.output)
+        for line in log.sentences():
+            say("log", line)
+    counts = f"{len(found.inputs):,} inputs, {len(found.requests):,} priority requests, {len(found.frames):,} patterns"
+    say("log", f"{counts}; rounds of {found.ticks / 10:.1f} s")
+    return Status.DONE
+
+
+def compare(words: argparse.Namespace) -> int:
+    """Compares a log with a trace."""
+    import json
+    import os
+    import tempfile
+
+    from ..shared import files
+    from . import both, comparing, reading
+
+    with tempfile.TemporaryDirectory(prefix="arterial-log-") as room, reading.opened(asked_of(words)) as log:
+        parts = reading.write(log, os.path.join(room, "log.indications"))
+        pair = both.read(log, parts, words.trace, words.first, words.last)
+        found, places = pair.compared(), {it: log.plan.place(it) for it in log.devices.values()}
+        if words.page:
+            both.write_page(pair, words.page)
+        for line in log.sentences():
+            say("log", line)
+        with files.output(words.output) as out:
+            if words.json:
+                out.write(json.dumps(comparing.as_json(found, places, pair.span), indent=1, ensure_ascii=False) + "\n")
+            else:
+                out.write(comparing.text(found, places, pair.span))
+    return Status.DONE
+
+
+DOES = {"read": read, "judge": judge, "replay": replay, "compare": compare}
 
 
 def main(arguments: list[str]) -> int:
