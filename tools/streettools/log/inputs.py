@@ -51,9 +51,8 @@ class Bank:
         return Sensed(tick, "veh", phase, on) if was != bool(active) else None
 
 
-def inputs(rows: Any, channels: dict[int, int], cabinet: int, findings: Findings) -> Iterator[Sensed]:
-    """Yields the inputs of a cabinet's rows, which are in the order of time."""
-    bank = Bank(channels)
+def inputs(rows: Any, bank: Bank, cabinet: int, findings: Findings) -> Iterator[Sensed]:
+    """Yields the inputs of a cabinet's rows, which are in the order of time; the bank knows what is on before them."""
     part = rows[np.isin(rows["code"], INPUT_CODES)]
     for tick, code, number in part.tolist():
         if code in DETECTORS:

@@ -61,9 +61,9 @@ def frames_of(parts: list[str], base: int) -> Iterator[Frame]:
 def calls_of(log: Log, base: int) -> Iterator[Input]:
     """Yields the inputs of a log."""
     for device, cabinet in log.devices.items():
-        last = base
+        last, bank = base, inputs.Bank(log.plan.channels.get(cabinet, {}))
         for its in log.stretches_of(device):
-            for it in inputs.inputs(its, log.plan.channels.get(cabinet, {}), cabinet, log.findings):
+            for it in inputs.inputs(its, bank, cabinet, log.findings):
                 if it.tick >= last:
                     last = it.tick
                     yield Input(cabinet, it.tick - base, it.kind, it.number, it.on)

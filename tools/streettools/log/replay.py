@@ -63,15 +63,15 @@ class Replay:
         """Takes the rows of a device."""
         cabinet = self.log.devices[device]
         before, rows = self.rows_of(device)
-        channels = self.log.plan.channels.get(cabinet, {})
-        self.inputs += self.opening(before, rows, channels, cabinet)
-        for it in inputs.inputs(rows, channels, cabinet, self.log.findings):
+        bank = Bank(self.log.plan.channels.get(cabinet, {}))
+        self.inputs += self.opening(before, rows, bank, cabinet)
+        for it in inputs.inputs(rows, bank, cabinet, self.log.findings):
             found: dict[str, Any] = {"round": self.round_after(it.tick), "cabinet": cabinet, it.kind: it.number}
             self.inputs.append(found if it.kind == "ped" else found | {"on": it.on})
         self.take_patterns(before, rows, cabinet)
         self.take_priority(rows, cabinet)
 
-    def opening(self, before: Any, rows: Any, channels: dict[int, int], cabinet: int) -> list[dict[str, Any]]:
+    def opening(self, before: Any, rows: Any, bank: Bank, cabinet: int) -> list[dict[str, Any]]:
         """Returns the detectors that are on as the span begins: those whose last row before it, or else whose first row
         in it, says so."""
         on: set[int] = set()
@@ -83,9 +83,8 @@ class Replay:
             if channel not in known and not inputs.DETECTORS[code]:
                 on.add(channel)
             known.add(channel)
-        bank = Bank(channels)
-        phases = sorted({phase for phase in map(bank.phase, on) if phase is not None})
-        return [{"round": 1, "cabinet": cabinet, "veh": phase, "on": True} for phase in phases]
+        found = [bank.take(self.span.begin, channel, True) for channel in sorted(on)]
+        return [{"round": 1, "cabinet": cabinet, "veh": it.number, "on": True} for it in found if it]
 
     def take_patterns(self, before: Any, rows: Any, cabinet: int) -> None:
         """Takes the patterns that ran: the last one before the span is that of the opening; each later one is commanded

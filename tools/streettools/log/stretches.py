@@ -12,7 +12,7 @@ from .findings import Findings
 
 JUMP = 20
 """A row this many ticks before the one above it is out of order, or the clock was set back."""
-AFTER_JUMP = 20
+AFTER_JUMP = 5
 """The clock was set back if this many rows after the jump stay before it."""
 MOST_JUMPS = 1000
 """If there are more jumps than one in this many rows, and more than ten, the log isn't in the order of time at all."""
@@ -29,7 +29,7 @@ def jumps_of(ticks: Any, back: Any) -> list[int]:
     for at in back:
         before = ticks[at - 1]
         later = ticks[at : at + AFTER_JUMP]
-        if before - ticks[at] > JUMP and later.max() < before:
+        if before - ticks[at] > JUMP and len(later) == AFTER_JUMP and later.max() < before:
             found.append(int(at))
     return found
 

@@ -36,7 +36,8 @@ def add_reader(commands: "argparse._SubParsersAction[Parser]", name: str, text: 
                        help="the cabinet that a device of the log is, by number or name; once for each device that is "
                        "read (default: the cabinet with the device's number or name)")  # fmt: skip
     found.add_argument("--columns", metavar="NAME,..", help="the columns of the log in order: time, device, code, "
-                       "parameter, and - for others (default: by the header, or by the first rows)")  # fmt: skip
+                       "parameter, and - for others, as --columns=-,device,time,code,parameter (default: by the "
+                       "header, or by the first rows)")  # fmt: skip
     found.add_argument("--day-first", action="store_true", default=None, help="dates are written 27/11/2026")
     found.add_argument("--hole", type=number(1, 86_400), default=900, metavar="S", help="a cabinet without any row for "
                        "this long is judged from scratch after it (default: 900)")  # fmt: skip
