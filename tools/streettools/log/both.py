@@ -37,8 +37,8 @@ class Pair:
     def compared(self) -> list[Compared]:
         """Returns what is compared of each cabinet of the log."""
         return [
-            comparing.compare(number, self.log.plan.tables(number), self.of_log[number], self.of_bench[number], self.span)
-            for number in sorted(self.of_log)
+            comparing.compare(it, self.log.plan.tables(it), self.of_log[it], self.of_bench[it], self.span)
+            for it in sorted(self.of_log)
         ]
 
 

@@ -2,13 +2,17 @@
 needed."""
 
 import argparse
+from typing import TYPE_CHECKING
 
 from ..shared.saying import say
 from ..shared.status import Status
 from .words import parser
 
+if TYPE_CHECKING:
+    from .reading import Asked
 
-def asked_of(words: argparse.Namespace):  # type: ignore[no-untyped-def]
+
+def asked_of(words: argparse.Namespace) -> "Asked":
     """Returns what a log is read with."""
     from . import reading, street
     from .rows import Given

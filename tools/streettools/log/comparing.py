@@ -169,7 +169,7 @@ def parting_words(it: Parting) -> str:
     begin = f"log and bench agree from {times.time_text(it.agree)} on"
     if it.part is None:
         return f"{begin}, to the end; {same}"
-    differ = ", ".join(f"phase {phase} is {COLOURS[one]} in the log and {COLOURS[two]} here" for phase, one, two in it.differ)
+    differ = ", ".join(f"phase {phase} {COLOURS[one]} in the log, {COLOURS[two]} here" for phase, one, two in it.differ)
     return f"{begin}, and part at {times.time_text(it.part)}: {differ}; {same}"
 
 
@@ -179,12 +179,12 @@ def text(found: list[Compared], places: dict[int, str], span: Span) -> str:
     for it in found:
         lines += ["", places[it.cabinet], f"  {parting_words(it.parting)}"]
         lines.append(
-            f"  cycles by the green of phase {it.reference}: {it.log_cycles} in the log (mean {seconds(it.log_cycle)} s), "
-            f"{it.bench_cycles} at the bench (mean {seconds(it.bench_cycle)} s), {it.pairs} compared"
+            f"  cycles by the green of phase {it.reference}: {it.log_cycles} in the log (mean {seconds(it.log_cycle)} s),"
+            f" {it.bench_cycles} at the bench (mean {seconds(it.bench_cycle)} s), {it.pairs} compared"
         )
         lines.append(
-            f"  the bench begins a cycle {seconds(it.offset, True)} s later on average, {seconds(it.offset_distance)} s "
-            "without sign"
+            f"  the bench begins a cycle {seconds(it.offset, True)} s later on average, {seconds(it.offset_distance)} s"
+            " without sign"
         )
         lines.append("  phase   greens: log  bench   mean: log  bench   difference  without sign  greatest")
         for row in it.phases:

@@ -33,7 +33,7 @@ class Found(NamedTuple):
 
     cabinet: int
     kind: str
-    count: int
+    times: int
     first: str
 
 
@@ -65,4 +65,5 @@ class Findings:
 def sentence(found: Found, place: str) -> str:
     """Returns a line that reports a kind; `place` is the name of the cabinet, or empty."""
     first = f" (the first: {found.first})" if found.first else ""
-    return f"{place}: {found.count} {KINDS[found.kind]}{first}" if place else f"{found.count} {KINDS[found.kind]}{first}"
+    words = f"{found.times} {KINDS[found.kind]}{first}"
+    return f"{place}: {words}" if place else words

@@ -1,5 +1,6 @@
 """A log as a page for a browser (docs/PAGE.md): what the cabinets show, their calls, and a mark for each breach."""
 
+import dataclasses
 import heapq
 from collections.abc import Callable, Iterator
 from dataclasses import dataclass
@@ -100,7 +101,4 @@ def named(log: Log) -> Called:
     from ..plan.names import Names
 
     names = log.plan.names.names or Names()
-    found = Called(names)
-    title = found.title() or "A street"
-    found.title = lambda: f"{title}, log of {log.date()}"  # type: ignore[method-assign]
-    return found
+    return Called(dataclasses.replace(names, title=f"{names.title or 'A street'}, log of {log.date()}"))

@@ -43,8 +43,8 @@ class Asked:
 
 @dataclass
 class Log:
-    """A log that was read: its plan, what was found, the rows of each cabinet, and the midnight (a tick since 1970) from
-    which its ticks count."""
+    """A log that was read: its plan, what was found, the rows of each cabinet, and the midnight (a tick since 1970)
+    from which its ticks count."""
 
     plan: street.Plan
     findings: Findings

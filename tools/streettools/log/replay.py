@@ -1,5 +1,5 @@
-"""The traffic of a log as a scenario: what detectors, buttons, preempts and priority requests reported, and the patterns
-that ran, arrive at the cabinets of the bench at the same times.
+"""The traffic of a log as a scenario: what detectors, buttons, preempts and priority requests reported, and the
+patterns that ran, arrive at the cabinets of the bench at the same times.
 
 An input arrives before the ticks of its round. So rounds are as short as a scenario of that length may have: a tick up
 to 2.4 hours, a second for a day.
@@ -140,7 +140,8 @@ class Replay:
             if items:
                 found[name] = sorted(items, key=lambda it: it["round"])
         if self.rounds * self.ticks * len(cabinets) > MOST_TICKS:
-            raise Fault(f"a scenario of {len(cabinets)} cabinets has at most {MOST_TICKS // len(cabinets):,} ticks; {ADVICE}")
+            most = MOST_TICKS // len(cabinets)
+            raise Fault(f"a scenario of {len(cabinets)} cabinets has at most {most:,} ticks; {ADVICE}")
         return found
 
 

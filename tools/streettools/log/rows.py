@@ -11,7 +11,7 @@ import os
 import pathlib
 from collections.abc import Iterator
 from dataclasses import dataclass, field
-from typing import IO, Any
+from typing import Any, Protocol
 
 import numpy as np
 import pandas as pd
@@ -30,6 +30,13 @@ MOST_DEVICES = 4096
 GZIP, PARQUET = b"\x1f\x8b", b"PAR1"
 MOST_BYTES = 1 << 36
 """How many bytes of text are read at the most, 64 GB, also out of a compressed file."""
+
+
+class Stream(Protocol):
+    """What blocks are read from."""
+
+    def read(self, size: int = -1, /) -> bytes:
+        """Reads some bytes."""
 
 
 @dataclass
@@ -71,14 +78,14 @@ class Spool:
         return np.fromfile(self.path(device), ROW)
 
 
-def blocks(stream: IO[bytes], path: str) -> Iterator[bytes]:
+def blocks(stream: Stream, path: str) -> Iterator[bytes]:
     """Yields whole lines of a stream, in blocks."""
     rest, total = b"", 0
     while True:
         try:
             piece = stream.read(BLOCK)
         except (OSError, EOFError) as fault:
-            raise Fault(f"{path}: it can't be decompressed: {fault}" if fault.args else f"{path}: it ends early") from None
+            raise Fault(f"{path}: it can't be decompressed: {fault}") from None
         total += len(piece)
         if total > MOST_BYTES:
             raise Fault(f"{path}: it has more than 64 GB")
@@ -104,7 +111,7 @@ class Reader:
         self.layout: Layout | None = None
         self.line = 0
 
-    def read(self, stream: IO[bytes]) -> None:
+    def read(self, stream: Stream) -> None:
         """Reads all rows."""
         for block in blocks(stream, self.path):
             if self.layout is None:

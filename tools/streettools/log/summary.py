@@ -1,5 +1,5 @@
-"""The report of a log that was judged: its breaches in words, how many there are of each kind, and what was found in its
-rows; as text, or as JSON."""
+"""The report of a log that was judged: its breaches in words, how many there are of each kind, and what was found in
+its rows; as text, or as JSON."""
 
 import json
 from collections import Counter
@@ -34,7 +34,8 @@ def text(log: Log, told: list[Told], tolerance: int) -> str:
         lines.append(f".. and {len(told) - MOST_SHOWN:,} more (--json has all)")
     found = counts(told)
     span = f"{log.spool.rows:,} rows of {len(log.devices)} cabinet{'s' * (len(log.devices) > 1)}"
-    lines.append(f"{span}, judged to within {tolerance / 10:.1f} s: " + (f"{len(told):,} breaches" if told else "no breach"))
+    many = "no breach" if not told else "1 breach" if len(told) == 1 else f"{len(told):,} breaches"
+    lines.append(f"{span}, judged to within {tolerance / 10:.1f} s: {many}")
     lines += [f"  {found[it]:6,}  {it}: {MEANINGS[it]}" for it in (*CLAUSES, "not ended") if found[it]]
     return "".join(f"{line}\n" for line in lines)
 
@@ -45,7 +46,7 @@ def as_json(log: Log, told: list[Told], tolerance: int) -> str:
         "date": log.date(), "rows": log.spool.rows, "tolerance": tolerance,
         "cabinets": {str(number): log.plan.place(number) for number in sorted(log.devices.values())},
         "found": [
-            {"cabinet": it.cabinet, "kind": it.kind, "count": it.count, "first": it.first}
+            {"cabinet": it.cabinet, "kind": it.kind, "count": it.times, "first": it.first}
             for it in log.findings.listed()
         ],
         "counts": dict(counts(told)),

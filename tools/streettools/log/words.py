@@ -18,8 +18,6 @@ A log is CSV (also with gzip), or Parquet if Python's package pyarrow is there. 
 Exit status: 0 done, 1 a file can't be read or written, 2 the arguments or a file are invalid, 8 judge found breaches,
 130 Ctrl-C.
 """
-TIME = "seconds of the log's first day are written as a time of day, as 07:05 or 07:05:00"
-
 
 def add_reader(commands: "argparse._SubParsersAction[Parser]", name: str, text: str) -> argparse.ArgumentParser:
     """Returns the reader of a command, with the options that all share."""
@@ -28,12 +26,12 @@ def add_reader(commands: "argparse._SubParsersAction[Parser]", name: str, text: 
     found.add_argument("events", metavar="EVENTS", help="the event log: CSV, also with gzip; or Parquet")
     if name == "compare":
         found.add_argument("trace", metavar="TRACE", help="the trace of the bench")
-    found.add_argument("--sheet", required=True, metavar="PLAN", help="the plan: a timing sheet, a workbook, a scenario "
-                       "or a field file")  # fmt: skip
+    found.add_argument("--sheet", required=True, metavar="PLAN", help="the plan: a timing sheet, a workbook, a "
+                       "scenario or a field file")  # fmt: skip
     found.add_argument("--names", metavar="FILE", help="names of cabinets and phases, if PLAN is a scenario (default: "
                        "the file next to it)")  # fmt: skip
-    found.add_argument("--device", type=device_option, action="append", default=[], metavar="ID=CABINET", dest="devices",
-                       help="the cabinet that a device of the log is, by number or name; once for each device that is "
+    found.add_argument("--device", type=device_option, action="append", default=[], metavar="ID=CABINET",
+                       dest="devices", help="the cabinet that a device of the log is, by number or name; once for each device that is "
                        "read (default: the cabinet with the device's number or name)")  # fmt: skip
     found.add_argument("--columns", metavar="NAME,..", help="the columns of the log in order: time, device, code, "
                        "parameter, and - for others, as --columns=-,device,time,code,parameter (default: by the "
@@ -46,8 +44,8 @@ def add_reader(commands: "argparse._SubParsersAction[Parser]", name: str, text: 
 
 def add_judging(found: argparse.ArgumentParser) -> None:
     """Adds what `judge` takes."""
-    found.add_argument("--tolerance", type=number(0, 20), default=1, metavar="TICKS", help="how much an interval may be "
-                       "shorter or longer than its time (default: 1, since a log rounds both ends)")  # fmt: skip
+    found.add_argument("--tolerance", type=number(0, 20), default=1, metavar="TICKS", help="how much an interval may "
+                       "be shorter or longer than its time (default: 1, since a log rounds both ends)")  # fmt: skip
     found.add_argument("--page", metavar="FILE", help="write a page (.html) that shows the log, with a mark for each "
                        "breach")  # fmt: skip
     add_json(found)
@@ -77,8 +75,8 @@ def parser() -> Parser:
     add_output(replay, "the scenario to write: .json", required=True)
     compare = add_reader(commands, "compare", "compare the greens of a log with those of a trace of the bench")
     add_span(compare)
-    compare.add_argument("--page", metavar="FILE", help="write a page (.html) with each cabinet of the log next to that "
-                         "of the bench")  # fmt: skip
+    compare.add_argument("--page", metavar="FILE", help="write a page (.html) with each cabinet of the log next to "
+                         "that of the bench")  # fmt: skip
     add_json(compare)
     add_output(compare, "the file to write (default: standard output)")
     return words

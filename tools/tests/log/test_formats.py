@@ -18,7 +18,7 @@ WRITES = {
     "month first": lambda time: f"11/27/2026 {time}",
     "month first, AM": lambda time: f"11/27/2026 {int(time[:2])}{time[2:]} AM",
     "day first, dots": lambda time: f"27.11.2026 {time}",
-    "seconds since 1970": lambda time: f"{1795737600 + 60 * int(time[3:5]) + 3600 * int(time[:2]) + float(time[6:]):.1f}",
+    "seconds since 1970": lambda time: f"{1795762800 + 60 * int(time[3:5]) + float(time[6:]):.1f}",
 }
 HEADERS = [
     ("TimeStamp,DeviceId,EventId,Parameter", "{time},{device},{code},{parameter}"),

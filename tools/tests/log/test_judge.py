@@ -99,7 +99,8 @@ CASES = [
     (
         "a yellow that doesn't end",
         [*shown(2, "07:13:30.0", "07:13:50.0", None, None), ("07:14:00.0", 1, (131,), 1), ("07:14:00.0", 2, (1,), 2)],
-        "River Rd & Oak Ave, 2026-11-27 07:13:50.0: phase 2 yellow has not ended where the rows end; the plan has 4.0 s",
+        "River Rd & Oak Ave, 2026-11-27 07:13:50.0: phase 2 yellow has not ended where the rows end; the plan has "
+        "4.0 s",
     ),
 ]  # fmt: skip
 

@@ -101,14 +101,16 @@ def test_each_kind_of_row_arrives_in_its_round(made):
 
 def test_a_priority_request_without_a_phase_is_reported(made):
     scenario, said = made()
-    assert "priority" not in scenario and "1 rows that have no place in a scenario (the first: priority request 3" in said
+    assert "priority" not in scenario
+    assert "1 rows that have no place in a scenario (the first: priority request 3 at 07:00:55.0)" in said
 
 
 def test_a_span_can_be_chosen(made):
     scenario, _ = made("--from", "07:00:30", "--to", "07:01:00")
     assert (scenario["rounds"], scenario["cabinets"][0]["clock"]) == (300, 252_300)
     assert [it["round"] for it in scenario["inputs"]] == [1, 101, 201]
-    assert "the log has no rows in that time: it is from 07:00:00.0 to 07:01:20.1" in made("--from", "09:00", status=2)[1]
+    said = made("--from", "09:00", status=2)[1]
+    assert "the log has no rows in that time: it is from 07:00:00.0 to 07:01:20.1" in said
 
 
 def test_names_are_written_next_to_the_scenario(made, tmp_path):

@@ -27,9 +27,18 @@ class Readable(Protocol):
     """What a page is made of: the reader of a trace, or of something else that has cabinets and what happened."""
 
     scenario: dict[str, Any]
-    cabinets: int
-    rounds: int
-    ticks: int
+
+    @property
+    def cabinets(self) -> int:
+        """Returns the number of cabinets."""
+
+    @property
+    def rounds(self) -> int:
+        """Returns the number of rounds."""
+
+    @property
+    def ticks(self) -> int:
+        """Returns the ticks of a round."""
 
     def happenings(self) -> Iterator[Happening]:
         """Yields what happened, for each cabinet in the order of time."""
