@@ -12,7 +12,7 @@ from .conftest import TOP
 STREET = TOP / "scenarios/sumo/street"
 SCRIPT = TOP / "tools/tests/log/sumo_log.py"
 DEVICES = [word for number in range(4) for word in ("--device", f"c{number}={number + 1}")]
-SECONDS = 300
+SECONDS = 500
 needs_sumo = pytest.mark.skipif(shutil.which("sumo") is None, reason="SUMO is not installed")
 
 
