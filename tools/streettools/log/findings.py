@@ -25,7 +25,7 @@ KINDS = {
     "channel": "rows of detector channels that the plan doesn't have",
     "skipped": "rows that have no place in a scenario",
 }
-"""The kinds, in the order in which they are reported, in words that follow a number."""
+"""The kinds, in the order in which they are reported, in words that a number follows."""
 
 
 class Found(NamedTuple):
@@ -65,5 +65,5 @@ class Findings:
 def sentence(found: Found, place: str) -> str:
     """Returns a line that reports a kind; `place` is the name of the cabinet, or empty."""
     first = f" (the first: {found.first})" if found.first else ""
-    words = f"{found.times} {KINDS[found.kind]}{first}"
+    words = f"{KINDS[found.kind]}: {found.times}{first}"
     return f"{place}: {words}" if place else words

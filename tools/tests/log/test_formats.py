@@ -96,7 +96,7 @@ def test_devices_can_be_named(lines):
 
 def test_a_device_that_the_plan_has_not_is_reported(lines):
     found, said = lines(text_of(WRITES["iso"], *HEADERS[0]) + "2026-11-27 07:00:01,99,1,2\n")
-    assert found == due() and "log: 1 rows of devices that the plan doesn't have (the first: device '99')" in said
+    assert found == due() and "log: rows of devices that the plan doesn't have: 1 (the first: device '99')" in said
 
 
 def test_no_device_that_fits_is_refused(log, tmp_path):
@@ -115,17 +115,17 @@ def test_rows_that_cannot_be_read_are_counted_with_the_first_line(lines):
     text = text_of(WRITES["iso"], *HEADERS[0]).splitlines()
     text[3:3] = ["nonsense", "2026-11-27 25:00:00,1,1,2", "2026-11-27 07:00:00,1,x,2", "2026-11-27 07:00:00,1,1"]
     found, said = lines("\n".join(text))
-    assert found == due() and "log: 4 rows that can't be read (the first: line 4 of log.csv)" in said
+    assert found == due() and "log: rows that can't be read: 4 (the first: line 4 of log.csv)" in said
 
 
 @pytest.mark.parametrize(
     ("row", "words"),
     [
-        ("2026-11-27 07:00:40,1,777,2", "cabinet 1: 1 rows with codes that are unknown (the first: code 777)"),
-        ("2026-11-27 07:00:40,1,1,0", "cabinet 1: 1 rows with a parameter that the code can't have"),
+        ("2026-11-27 07:00:40,1,777,2", "cabinet 1: rows with codes that are unknown: 1 (the first: code 777)"),
+        ("2026-11-27 07:00:40,1,1,0", "cabinet 1: rows with a parameter that the code can't have: 1"),
         ("2026-11-27 07:00:40,1,8,17", "(the first: code 8, parameter 17)"),
-        ("2026-11-27 07:00:40.44,1,43,2", "1 times that are finer than a tenth of a second, rounded"),
-        ("2026-11-27 07:00:00.0,1,1,2", "cabinet 1: 1 duplicate rows, dropped (the first: 07:00:00.0)"),
+        ("2026-11-27 07:00:40.44,1,43,2", "times that are finer than a tenth of a second, rounded: 1"),
+        ("2026-11-27 07:00:00.0,1,1,2", "cabinet 1: duplicate rows, dropped: 1 (the first: 07:00:00.0)"),
     ],
 )
 def test_what_is_found_is_reported_by_kind(lines, row, words):

@@ -65,7 +65,7 @@ def test_a_lost_row_of_a_pair_is_reported_and_known_by_the_other(rows, read, goo
     for place in reversed(lost):
         del rows.rows[place]
     said = read(rows)
-    assert f"log: cabinet 2: {len(lost)} changes with a missing row" in said and "rows are missing" not in said
+    assert f"changes with a missing row, known by the other row of the change: {len(lost)} (" in said and "rows are missing" not in said
     assert all_shown(tmp_path) == good
 
 
@@ -77,7 +77,7 @@ def test_a_change_without_rows_is_reported_and_judged_from_scratch(rows, read, g
     rows.rows = [row for row in rows.rows if row not in gone]
     said = read(rows)
     lost = "changes whose rows are missing; the cabinet is judged from scratch there"
-    assert f"cabinet 3: 1 {lost} (the first: phase 2 at" in said
+    assert f"cabinet 3: {lost}: 1 (the first: phase 2 at" in said
     assert (tmp_path / "out.2").exists() and not (tmp_path / "out.3").exists()
     assert shown(tmp_path / "out.2", 3) and not shown(tmp_path / "out.2", 1)
 
@@ -93,7 +93,7 @@ def test_rows_a_tick_apart_are_reported(rows, read, good, tmp_path):
             count += 1
     rows.rows.sort(key=lambda row: row[0])
     said = read(rows)
-    assert f"cabinet 1: {count} changes whose two rows are a tick or two apart" in said
+    assert f"cabinet 1: changes whose two rows are a tick or two apart: {count}" in said
     assert all_shown(tmp_path) == good
 
 
@@ -101,7 +101,7 @@ def test_duplicate_rows_are_reported_and_dropped(rows, read, good, tmp_path):
     twice = [place for place, row in enumerate(rows.rows) if row[1] == "4" and row[2] in ("1", "8")][:7]
     for place in reversed(twice):
         rows.rows.insert(place, list(rows.rows[place]))
-    assert "cabinet 4: 7 duplicate rows, dropped" in read(rows) and all_shown(tmp_path) == good
+    assert "cabinet 4: duplicate rows, dropped: 7" in read(rows) and all_shown(tmp_path) == good
 
 
 def test_rows_out_of_order_are_put_in_order(rows, read, good, tmp_path):
@@ -130,7 +130,7 @@ def test_a_clock_that_is_set_back_is_reported(rows, read, good, tmp_path):
     for place in own[len(own) // 2 :]:
         rows.moved(place, -600)
     said = read(rows)
-    assert "cabinet 2: 1 times at which the clock was set back" in said
+    assert "the clock was set back; the cabinet is judged from scratch there: 1 (" in said
     assert shown(tmp_path / "out.2", 2) and not shown(tmp_path / "out.2", 3)
 
 
@@ -138,7 +138,7 @@ def test_a_hole_is_reported(rows, read, good, tmp_path):
     gone = ("07:08", "07:09", "07:10", "07:11", "07:12")
     rows.rows = [row for row in rows.rows if row[1] != "1" or row[0][11:16] not in gone]
     said = read(rows, "--hole", "200")
-    assert "cabinet 1: 1 holes, without any row; the cabinet is judged from scratch after each (the first: " in said
+    assert "cabinet 1: holes, without any row; the cabinet is judged from scratch after each: 1 (the first: " in said
     before, after = shown(tmp_path / "out", 1), shown(tmp_path / "out.2", 1)
     assert before[-1][0] < after[0][0] - 2000 and set(before[1:]) | set(after[1:]) <= set(good[1])
 
@@ -151,5 +151,5 @@ def test_two_devices_that_are_swapped_are_reported(rows, read, good, tmp_path):
     cells = [it.get("cells", []) for it in json.loads(SHEET.read_text())["cabinets"]]
     assert ["pattern", 1, 3, 20] in cells[1] and not any(cell[:3] == ["pattern", 1, 3] for cell in cells[0])
     differ = "patterns whose cycle, offset or splits differ from the plan's"
-    assert f"cabinet 1: 1 {differ} (the first: offset of pattern 1" in said
-    assert "20 s, the plan has 0 s" in said and "0 s, the plan has 20 s" in said and "cabinet 3: 1 pat" not in said
+    assert f"cabinet 1: {differ}: 1 (the first: offset of pattern 1" in said
+    assert "20 s, the plan has 0 s" in said and "0 s, the plan has 20 s" in said and "cabinet 3: pat" not in said

@@ -96,13 +96,13 @@ def test_each_kind_of_row_arrives_in_its_round(made):
     assert scenario["priority"] == [{"round": 551, "cabinet": 1, **request}]
     (frame,) = scenario["frames"]
     assert (frame["round"], frame["stream"]) == (700, "poll") and frame["hex"].endswith("020102")
-    assert "1 rows of detector channels that the plan doesn't have (the first: channel 77 at 07:01:12.0)" in said
+    assert "rows of detector channels that the plan doesn't have: 1 (the first: channel 77 at 07:01:12.0)" in said
 
 
 def test_a_priority_request_without_a_phase_is_reported(made):
     scenario, said = made()
     assert "priority" not in scenario
-    assert "1 rows that have no place in a scenario (the first: priority request 3 at 07:00:55.0)" in said
+    assert "rows that have no place in a scenario: 1 (the first: priority request 3 at 07:00:55.0)" in said
 
 
 def test_a_span_can_be_chosen(made):
