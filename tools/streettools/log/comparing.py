@@ -27,14 +27,17 @@ class Parting:
 
 @dataclass
 class OfPhase:
-    """The greens of a phase: how many, their mean lengths, and the difference of the bench in each pair of cycles, in
-    ticks: mean, mean without sign, and the greatest, with the tick of its cycle."""
+    """The greens of a phase: how many, their mean lengths and those of whole splits (green, yellow change, red
+    clearance), and the difference of the bench's greens in each pair of cycles, in ticks: mean, mean without sign, and
+    the greatest, with the tick of its cycle."""
 
     phase: int
     log_count: int
     bench_count: int
     log_mean: float | None
     bench_mean: float | None
+    log_split: float | None
+    bench_split: float | None
     difference: float | None
     distance: float | None
     greatest: int | None
@@ -122,13 +125,15 @@ def in_cycle(greens: list[Green], begin: int, end: int) -> int:
     return sum(it.length for it in greens if begin <= it.start < end)
 
 
-def of_phase(phase: int, ones: list[Green], others: list[Green], cycles: list[tuple[Span, Span]]) -> OfPhase:
+def of_phase(phase: int, log: Lights, bench: Lights, span: Span, cycles: list[tuple[Span, Span]]) -> OfPhase:
     """Returns what is compared of a phase; `cycles` are the pairs of cycles."""
+    ones, others = log.greens(phase, *span), bench.greens(phase, *span)
+    log_split, bench_split = (mean([it.length for it in side.splits(phase, *span)]) for side in (log, bench))
     apart = [in_cycle(others, *other) - in_cycle(ones, *one) for one, other in cycles]
     most = max(range(len(apart)), key=lambda place: abs(apart[place]), default=None)
     return OfPhase(
         phase, len(ones), len(others), mean([it.length for it in ones]), mean([it.length for it in others]),
-        mean(apart), mean([abs(it) for it in apart]), None if most is None else apart[most],
+        log_split, bench_split, mean(apart), mean([abs(it) for it in apart]), None if most is None else apart[most],
         None if most is None else cycles[most][0].begin,
     )  # fmt: skip
 
@@ -141,15 +146,15 @@ def lengths(greens: list[Green]) -> list[int]:
 def compare(cabinet: int, tables: Tables, log: Lights, bench: Lights, span: Span) -> Compared:
     """Returns what is compared of a cabinet."""
     reference = reference_of(tables, log, span)
-    greens = {phase: (log.greens(phase, *span), bench.greens(phase, *span)) for phase in range(1, 17)}
-    ones, others = greens[reference]
+    ones, others = log.greens(reference, *span), bench.greens(reference, *span)
     pairs = pairs_of(ones, others)
     cycles = [
         (Span(ones[one].start, ones[one + 1].start), Span(others[other].start, others[other + 1].start))
         for one, other in pairs
     ]
     late = [other.begin - one.begin for one, other in cycles]
-    phases = [of_phase(phase, *it, cycles) for phase, it in greens.items() if any(it)]
+    phases = [of_phase(phase, log, bench, span, cycles) for phase in range(1, 17)]
+    phases = [it for it in phases if it.log_count or it.bench_count]
     return Compared(
         cabinet, parting(log, bench, span), reference, max(0, len(ones) - 1), max(0, len(others) - 1), len(pairs),
         mean(lengths(ones)), mean(lengths(others)), mean(late), mean([abs(it) for it in late]), phases,
@@ -158,7 +163,10 @@ def compare(cabinet: int, tables: Tables, log: Lights, bench: Lights, span: Span
 
 def seconds(ticks: float | None, signed: bool = False) -> str:
     """Returns ticks as seconds for a table."""
-    return "-" if ticks is None else f"{ticks / 10:+.1f}" if signed else f"{ticks / 10:.1f}"
+    if ticks is None:
+        return "-"
+    value = round(ticks / 10, 1) + 0.0  # no -0.0
+    return f"{value:+.1f}" if signed else f"{value:.1f}"
 
 
 def parting_words(it: Parting) -> str:
@@ -179,19 +187,23 @@ def text(found: list[Compared], places: dict[int, str], span: Span) -> str:
     for it in found:
         lines += ["", places[it.cabinet], f"  {parting_words(it.parting)}"]
         lines.append(
-            f"  cycles by the green of phase {it.reference}: {it.log_cycles} in the log (mean {seconds(it.log_cycle)} s),"
-            f" {it.bench_cycles} at the bench (mean {seconds(it.bench_cycle)} s), {it.pairs} compared"
+            f"  cycles by the green of phase {it.reference}: {it.log_cycles} in the log (mean "
+            f"{seconds(it.log_cycle)} s), {it.bench_cycles} at the bench (mean {seconds(it.bench_cycle)} s), "
+            f"{it.pairs} compared"
         )
         lines.append(
             f"  the bench begins a cycle {seconds(it.offset, True)} s later on average, {seconds(it.offset_distance)} s"
             " without sign"
         )
-        lines.append("  phase   greens: log  bench   mean: log  bench   difference  without sign  greatest")
+        lines.append(
+            "  phase   greens: log  bench   mean: log  bench   split: log  bench   difference  without sign  greatest"
+        )
         for row in it.phases:
             at = "" if not row.greatest or row.greatest_at is None else f" at {times.time_text(row.greatest_at)}"
             lines.append(
                 f"  {row.phase:5}   {row.log_count:11}  {row.bench_count:5}   {seconds(row.log_mean):>9}  "
-                f"{seconds(row.bench_mean):>5}   {seconds(row.difference, True):>10}  {seconds(row.distance):>12}  "
+                f"{seconds(row.bench_mean):>5}   {seconds(row.log_split):>10}  {seconds(row.bench_split):>5}   "
+                f"{seconds(row.difference, True):>10}  {seconds(row.distance):>12}  "
                 f"{seconds(row.greatest, True):>8}{at}"
             )
     return "".join(f"{line}\n" for line in lines)

@@ -20,7 +20,7 @@ class Shows(NamedTuple):
 
 
 class Green(NamedTuple):
-    """A green, from its first tick up to its end."""
+    """A green, or a whole split, from its first tick up to its end."""
 
     start: int
     end: int
@@ -39,12 +39,20 @@ class Lights:
 
     def greens(self, phase: int, begin: int, end: int) -> list[Green]:
         """Returns the greens of a phase that begin and end within a span."""
+        return self.intervals(phase, "G", begin, end)
+
+    def splits(self, phase: int, begin: int, end: int) -> list[Green]:
+        """Returns the times that a phase is on: green, yellow change and red clearance together."""
+        return self.intervals(phase, "GYC", begin, end)
+
+    def intervals(self, phase: int, letters: str, begin: int, end: int) -> list[Green]:
+        """Returns the times at which a phase shows one of some colours, if they begin and end within a span."""
         found, since = [], None
         for it in self.shows:
-            is_green = it.colours[phase - 1] == "G"
-            if is_green and since is None:
+            holds = it.colours[phase - 1] in letters
+            if holds and since is None:
                 since = it.tick
-            elif not is_green and since is not None:
+            elif not holds and since is not None:
                 if begin <= since and it.tick <= end:
                     found.append(Green(since, it.tick))
                 since = None

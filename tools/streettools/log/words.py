@@ -21,8 +21,9 @@ Exit status: 0 done, 1 a file can't be read or written, 2 the arguments or a fil
 
 def add_reader(commands: "argparse._SubParsersAction[Parser]", name: str, text: str) -> argparse.ArgumentParser:
     """Returns the reader of a command, with the options that all share."""
-    found = commands.add_parser(name, help=text, description=f"{text[:1].upper()}{text[1:]}.",
-                                formatter_class=argparse.HelpFormatter)  # fmt: skip
+    found = commands.add_parser(
+        name, help=text, description=f"{text[:1].upper()}{text[1:]}.", formatter_class=argparse.HelpFormatter
+    )
     found.add_argument("events", metavar="EVENTS", help="the event log: CSV, also with gzip; or Parquet")
     if name == "compare":
         found.add_argument("trace", metavar="TRACE", help="the trace of the bench")
@@ -31,8 +32,8 @@ def add_reader(commands: "argparse._SubParsersAction[Parser]", name: str, text: 
     found.add_argument("--names", metavar="FILE", help="names of cabinets and phases, if PLAN is a scenario (default: "
                        "the file next to it)")  # fmt: skip
     found.add_argument("--device", type=device_option, action="append", default=[], metavar="ID=CABINET",
-                       dest="devices", help="the cabinet that a device of the log is, by number or name; once for each device that is "
-                       "read (default: the cabinet with the device's number or name)")  # fmt: skip
+                       dest="devices", help="the cabinet that a device of the log is, by number or name; once for each "
+                       "device that is read (default: the cabinet with the device's number or name)")  # fmt: skip
     found.add_argument("--columns", metavar="NAME,..", help="the columns of the log in order: time, device, code, "
                        "parameter, and - for others, as --columns=-,device,time,code,parameter (default: by the "
                        "header, or by the first rows)")  # fmt: skip

@@ -1,11 +1,11 @@
 #!/usr/bin/python3
-"""Writes the event log of a run of SUMO under its own controllers, NEMA or actuated, as a controller in the field would.
+"""Writes the event log of a run of SUMO under its own controllers, NEMA or actuated, as one in the field would.
 
     tools/tests/log/sumo_log.py CONFIG PROGRAMS MAP SECONDS LOG CHANNELS [--pattern N]
 
-CONFIG is SUMO's configuration, PROGRAMS an additional file with the controllers, MAP a map of links to phases (TOML). It
-uses nothing of the tools. LOG has the columns SignalID, Timestamp, EventCode, EventParam; the run begins at 07:00:00.
-CHANNELS is written as JSON: for each signal the phase of each channel. A channel is a detector of 15 m before a stop
+CONFIG is SUMO's configuration, PROGRAMS an additional file with the controllers, MAP a map of links to phases (TOML).
+It uses nothing of the tools. LOG has the columns SignalID, Timestamp, EventCode, EventParam; the run begins at
+07:00:00. CHANNELS is written as JSON: for each signal the phase of each channel. A channel is a detector of 15 m before a stop
 line. Neither controller shows its red clearance: it is the time from the end of yellow until the phase is no longer the
 active one of its ring (NEMA), or until the next stage (actuated). No pedestrian signal is written, since these
 controllers have none.
@@ -125,7 +125,8 @@ def main() -> None:
         added = pathlib.Path(folder) / "detectors.add.xml"
         added.write_text(text)
         files = f"{pathlib.Path(given.programs).resolve()},{added}"
-        sumo.start(["sumo", "-c", given.config, "-a", files, "--step-length", "0.1", "--no-step-log", "-W", "--seed", "1"])
+        options = ["--step-length", "0.1", "--no-step-log", "-W", "--seed", "1"]
+        sumo.start(["sumo", "-c", given.config, "-a", files, *options])
         try:
             rows = rows_of(sumo, [Signal(sumo, it, is_nema) for it in told], lanes, float(given.seconds))
         finally:

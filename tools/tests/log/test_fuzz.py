@@ -25,9 +25,15 @@ TIMES = [
     "2026-02-30 07:00:00", "2026-11-27 24:00:00", "9999-12-31 23:59:59.999999999", "0000-00-00 00:00:00", "07:00", "",
     "1970-01-01 00:00:00", "2200-12-31 23:59:59.9", "4000000000", "2026-11-27 07:00:00.0000000001", "NaN", "1e309",
 ]  # fmt: skip
-WORDS = ["", "0", "1", "2", "-1", "16", "17", "99999999999999999999", "1.0", "1.5", "x", '"', '"1"', "\x00", "é", " 1 ", "NaN", "1e5", "0x1", "٣"]
-CODES = ["0", "1", "7", "8", "9", "10", "11", "12", "21", "22", "23", "81", "82", "90", "102", "104", "105", "131", "150", "173", "255", "777"]
-GOOD = (TOP / "tools/tests/log/good.csv").read_bytes()
+WORDS = [
+    "", "0", "1", "2", "-1", "16", "17", "99999999999999999999", "1.0", "1.5", "x", '"', '"1"', "\x00", "é", " 1 ",
+    "NaN", "1e5", "0x1", "٣",
+]  # fmt: skip
+CODES = (
+    "0 1 7 8 9 10 11 12 21 22 23 81 82 90 102 104 105 106 107 111 112 115 131 132 133 134 150 173 255 777".split()
+)
+PARAMETERS = "1 2 4 5 6 8 9 255".split()
+GOOD = b"".join((TOP / "tools/tests/log/good.csv").read_bytes().splitlines(keepends=True)[:60])
 
 
 def words(rng, known, share=0.9):
@@ -41,7 +47,7 @@ def line(rng, delimiter):
         return "".join(rng.choice(' ,;"\t\r\'\\x0') for _ in range(rng.randrange(30)))
     second = f"2026-11-27 07:{rng.randrange(60):02d}:{rng.randrange(60):02d}.{rng.randrange(10)}"
     time = second if rng.random() < 0.8 else words(rng, TIMES)
-    its = [time, words(rng, ["1", "2", "3", "x"]), words(rng, CODES), words(rng, ["1", "2", "4", "5", "6", "8", "9", "255"])]
+    its = [time, words(rng, ["1", "2", "3", "x"]), words(rng, CODES), words(rng, PARAMETERS)]
     if rng.random() < 0.05:
         rng.shuffle(its)
     return delimiter.join(its[: rng.choice((4, 4, 4, 4, 4, 3, 2, 5))])
