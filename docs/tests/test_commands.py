@@ -44,8 +44,9 @@ NOT_RUN = {
 }
 """By what a command begins with: why it isn't run here."""
 
-SHOWN = (0, 2, 5)
-"""With which statuses a command may end whose output is shown: done, a refused scenario or sheet, a refused trace."""
+SHOWN = (0, 2, 5, 8)
+"""With which statuses a command may end whose output is shown: done, a refused scenario or sheet, a refused trace, a log
+with breaches."""
 
 LAUNCHER = """#!/bin/sh
 checkout='' program={program} tools={top}/tools
