@@ -109,8 +109,8 @@ def is_time(text: str) -> bool:
 
 
 def style_of(texts: Iterable[str], day_first: bool | None) -> tuple[Style | None, bool]:
-    """Returns the style of some times, None if none is a time; and whether day and month could be taken for each
-    other. `day_first` is what the caller says of it."""
+    """Returns the style of some times, None if none is a time; and whether days and months can't be distinguished.
+    `day_first` is what the caller says about them."""
     votes = {"iso": 0, "slashed": 0, "epoch": 0}
     above_one = above_two = False
     for text in texts:

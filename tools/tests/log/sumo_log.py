@@ -5,10 +5,10 @@
 
 CONFIG is SUMO's configuration, PROGRAMS an additional file with the controllers, MAP a map of links to phases (TOML).
 It uses nothing of the tools. LOG has the columns SignalID, Timestamp, EventCode, EventParam; the run begins at
-07:00:00. CHANNELS is written as JSON: for each signal the phase of each channel. A channel is a detector of 15 m before a
-stop line. Neither controller shows its red clearance: it is the time from the end of yellow until the phase is no longer the
-active one of its ring (NEMA), or until the next stage (actuated). No pedestrian signal is written, since these
-controllers have none.
+07:00:00. CHANNELS is written as JSON: for each signal the phase of each channel. A channel is a detector of 15 m
+before a stop line. Neither controller shows its red clearance: it is the time from the end of yellow until the phase
+is no longer the active one of its ring (NEMA), or until the next stage (actuated). No pedestrian signal is written,
+since these controllers have none.
 """
 
 import argparse
