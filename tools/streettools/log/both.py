@@ -16,7 +16,7 @@ from ..shared.trace_records import Frame, Happening
 from . import comparing, greens, times
 from .comparing import Compared
 from .greens import Lights
-from .page import Pages, by_time, frames_of
+from .page import Pages, frames_of
 from .reading import Log
 from .spans import Span, span_of
 
@@ -99,7 +99,7 @@ def write_page(pair: Pair, path: str) -> None:
             for it in pair.frames
             if it.tick + pair.offset >= base
         )
-        yield from by_time(it for part in (log, bench) for it in part if it.tick <= pair.span.end - base)
+        yield from (it for part in (log, bench) for it in part if it.tick <= pair.span.end - base)
 
     pages = Pages(scenario, pair.span.end - base, happened)
     names = doubled(pair)

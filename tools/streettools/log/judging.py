@@ -2,6 +2,7 @@
 
 import os
 import subprocess
+import sys
 import tempfile
 from collections.abc import Iterator
 from dataclasses import dataclass, field
@@ -104,4 +105,4 @@ def frames(part: str) -> Iterator[tuple[int, int, str, str, str]]:
         for line in lines:
             if line.startswith("F "):
                 _, cabinet, tick, colours, signals, mode, *_ = line.split(" ")
-                yield int(cabinet), int(tick), colours, signals, mode
+                yield int(cabinet), int(tick), sys.intern(colours), sys.intern(signals), sys.intern(mode)

@@ -2,7 +2,8 @@
 
 import dataclasses
 import heapq
-from collections.abc import Callable, Iterator
+import itertools
+from collections.abc import Callable, Iterable, Iterator
 from dataclasses import dataclass
 from typing import Any
 
@@ -48,31 +49,52 @@ class Pages:
         """There is nothing that could be left."""
 
 
+Found = tuple[int, int, str, str, str]
+
+
+def by_cabinet(parts: list[str]) -> Iterator[tuple[int, list[Found]]]:
+    """Yields the frames of each cabinet in turn, over all parts of a log, each of which has its cabinets in order."""
+    groups = [itertools.groupby(frames(part), key=lambda it: it[0]) for part in parts]
+    heads = [next(group, None) for group in groups]
+    while cabinets := [head[0] for head in heads if head is not None]:
+        cabinet, found = min(cabinets), []
+        for place, head in enumerate(heads):
+            if head is not None and head[0] == cabinet:
+                found += list(head[1])
+                heads[place] = next(groups[place], None)
+        yield cabinet, found
+
+
+def rising(found: list[Found], base: int) -> Iterator[Frame]:
+    """Yields the frames of a cabinet, with ticks from a base on; a frame that isn't later than those before it (the
+    clock was set back) is left out."""
+    last = base - 1
+    for cabinet, tick, colours, signals, mode in found:
+        if tick > last:
+            last = tick
+            yield Frame(cabinet, tick - base, colours, signals, mode, tick - base or 1, 0, 0)
+
+
 def frames_of(parts: list[str], base: int) -> Iterator[Frame]:
-    """Yields the frames of a log, with ticks from a base on; a frame that isn't later than those before it (the clock
-    was set back) is left out."""
-    last: dict[int, int] = {}
-    for part in parts:
-        for cabinet, tick, colours, signals, mode in frames(part):
-            if tick > last.get(cabinet, base - 1):
-                last[cabinet] = tick
-                yield Frame(cabinet, tick - base, colours, signals, mode, tick - base or 1, 0, 0)
+    """Yields the frames of a log, cabinet by cabinet."""
+    for _, found in by_cabinet(parts):
+        yield from rising(found, base)
 
 
-def calls_of(log: Log, base: int) -> Iterator[Input]:
-    """Yields the inputs of a log."""
-    for device, cabinet in log.devices.items():
-        last, bank = base, inputs.Bank(log.plan.channels.get(cabinet, {}))
-        for its in log.stretches_of(device):
-            for it in inputs.inputs(its, bank, cabinet, log.findings):
-                if it.tick >= last:
-                    last = it.tick
-                    yield Input(cabinet, it.tick - base, it.kind, it.number, it.on)
+def calls_of(log: Log, device: str, base: int) -> Iterator[Input]:
+    """Yields the inputs of a device."""
+    cabinet = log.devices[device]
+    last, bank = base, inputs.Bank(log.plan.channels.get(cabinet, {}))
+    for its in log.stretches_of(device):
+        for it in inputs.inputs(its, bank, cabinet, log.findings):
+            if it.tick >= last:
+                last = it.tick
+                yield Input(cabinet, it.tick - base, it.kind, it.number, it.on)
 
 
-def by_time(happenings: Iterator[Happening]) -> list[Happening]:
-    """Returns what happened in the order of time."""
-    return sorted(happenings, key=lambda it: it.tick)
+def tick_of(it: Happening) -> int:
+    """Returns the tick of something that happened."""
+    return it.tick
 
 
 def base_of(log: Log) -> int:
@@ -85,10 +107,12 @@ def write(log: Log, parts: list[str], told: list[Told], path: str) -> None:
     base = base_of(log)
 
     def happened() -> Iterator[Happening]:
-        marks = [Marked(it.cabinet, max(0, it.tick - base), "breach", it.words) for it in told]
-        yield from heapq.merge(
-            by_time(frames_of(parts, base)), by_time(calls_of(log, base)), by_time(iter(marks)), key=lambda it: it.tick
-        )
+        devices = {cabinet: device for device, cabinet in log.devices.items()}
+        for cabinet, found in by_cabinet(parts):
+            breaches = [it for it in told if it.cabinet == cabinet]
+            marks = [Marked(cabinet, max(0, it.tick - base), "breach", it.words) for it in breaches]
+            its: list[Iterable[Happening]] = [rising(found, base), calls_of(log, devices[cabinet], base), marks]
+            yield from heapq.merge(*its, key=tick_of)
 
     pages = Pages(log.plan.head(), log.last - log.midnight - base + 1, happened)
     street = list(range(1, log.plan.cabinets + 1))

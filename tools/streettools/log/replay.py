@@ -138,7 +138,7 @@ class Replay:
             if len(items) > most:
                 raise Fault(f"{len(items):,} {name}: a scenario has at most {most:,}; {ADVICE}")
             if items:
-                found[name] = sorted(items, key=lambda it: it["round"])
+                found[name] = sorted(items, key=lambda it: int(it["round"]))
         if self.rounds * self.ticks * len(cabinets) > MOST_TICKS:
             most = MOST_TICKS // len(cabinets)
             raise Fault(f"a scenario of {len(cabinets)} cabinets has at most {most:,} ticks; {ADVICE}")

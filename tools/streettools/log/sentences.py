@@ -138,13 +138,11 @@ def overrun_words(it: Overrun, tables: Tables) -> str:
 def told(plan: Plan, midnight: int, parts: list[str], report: Report) -> list[Told]:
     """Returns the breaches of a log in words, and the intervals that have not ended; in the order of time."""
     found = [told_overrun(plan, midnight, it) for it in report.overruns]
-    for number, part in enumerate(parts):
-        wanted: dict[tuple[int, int], list[Breach]] = {}
-        for breach in report.breaches:
-            if breach.part == number:
-                wanted.setdefault((breach.cabinet, breach.tick), []).append(breach)
-        if wanted:
-            found += of_part(plan, midnight, part, wanted)
+    wanted: dict[int, dict[tuple[int, int], list[Breach]]] = {}
+    for breach in report.breaches:
+        wanted.setdefault(breach.part, {}).setdefault((breach.cabinet, breach.tick), []).append(breach)
+    for number, its in wanted.items():
+        found += of_part(plan, midnight, parts[number], its)
     return sorted(found, key=lambda it: (it.tick, it.cabinet, it.phase))
 
 

@@ -2,7 +2,10 @@
 reader finds in it."""
 
 import gzip
+import sys
+import types
 
+import pandas
 import pytest
 from streettools.log import layout, times
 
@@ -186,3 +189,23 @@ def test_the_columns_of_a_header_are_named_in_many_ways():
     assert layout.named(["Signal ID", "Time Stamp", "Event_Code", "EventParam"]) == {
         "device": 0, "time": 1, "code": 2, "parameter": 3
     }  # fmt: skip
+
+
+class Batch:
+    """A batch of rows, as pyarrow gives it."""
+
+    def __init__(self, table):
+        self.to_pandas = lambda: table
+
+
+def test_rows_of_parquet_are_read_batch_by_batch(lines, monkeypatch):
+    """A substitute for pyarrow, which Debian 12 doesn't have: two batches of a file."""
+    rows = [(f"2026-11-27 {time}", device, code, it) for time, device, code, it in ROWS]
+    table = pandas.DataFrame(rows, columns=["TimeStamp", "DeviceId", "EventId", "Parameter"])
+    table.TimeStamp = pandas.to_datetime(table.TimeStamp)
+    file = types.SimpleNamespace(iter_batches=lambda: iter([Batch(table[:5]), Batch(table[5:])]))
+    parquet = types.ModuleType("pyarrow.parquet")
+    parquet.ParquetFile = lambda path: file
+    monkeypatch.setitem(sys.modules, "pyarrow", types.SimpleNamespace(parquet=parquet))
+    monkeypatch.setitem(sys.modules, "pyarrow.parquet", parquet)
+    assert lines(b"PAR1" + bytes(40), name="log.parquet")[0] == due()

@@ -1,6 +1,7 @@
 """Damaged logs: the reader takes what are rows, counts or refuses the rest, and has no fault of its own."""
 
 import io
+import os
 import pathlib
 import random
 
@@ -15,7 +16,7 @@ from streettools.shared.fault import Fault
 
 from .conftest import TOP
 
-CASES = 10_000
+CASES = int(os.environ.get("FUZZ_CASES", 10_000))
 HEADERS = [
     "TimeStamp,DeviceId,EventId,Parameter", "SignalID;Timestamp;EventCode;EventParam", "", "time\tcode\tparameter",
     "\ufeffTimeStamp,DeviceId,EventId,Parameter", "# remark", "//", "a,b,c,d", "TimeStamp,EventId", ",,,",
