@@ -45,7 +45,7 @@ def listed(head: str, known: Iterable[words.Word]) -> str:
 
 
 def short() -> str:
-    """Returns the short help, of 20 lines at most."""
+    """Returns the short help, which fits a terminal of 24 lines."""
     return (
         "usage: arterial COMMAND ..\n"
         + listed("  ", words.OF_PROGRAM)

@@ -101,7 +101,7 @@ def of_tool(command: Command, does: str, version: str) -> str:
 
 def common() -> Iterator[str]:
     """Yields the options that every command of a tool has."""
-    yield item("-h", "Show a short help of at most 20 lines.")
+    yield item("-h", "Show a short help of at most 24 lines.")
     yield item("--help", "Show all help.")
     yield item("--version", "Print the version.")
     yield item("--traceback", "If the tool has a fault, show where.")

@@ -15,7 +15,7 @@ HEAD = """\
 For everyone who looks up a command, an option, its unit or its default, or an exit status. This page is made by
 `tools/reference --write` from the program's help text and from the argument parsers of the tools; a test compares it.
 
-- `-h` shows a short help of at most 20 lines, `--help` shows all: of `./arterial`, of each of its commands, and of each
+- `-h` shows a short help of at most 24 lines, `--help` shows all: of `./arterial`, of each of its commands, and of each
   command of a tool. `--version` prints the version.
 - Every tool accepts `--traceback`: if the tool has a fault, Python's report of it is shown.
 - `-` in place of a file is standard input. A tick is 0.1 s. Options can't be shortened.
