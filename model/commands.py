@@ -1,12 +1,12 @@
 """What each command of the program's words reads and writes, and its exit status.
 
-`live` answers each line before it reads on; every other command reads all of its input first. docs/COMMANDS.md;
-docs/SCENARIO.md, "What is refused, and how"; docs/TRACE.md, "Checking a trace".
+`live` and `judge` answer each line before they read on; every other command reads all of its input first.
+docs/COMMANDS.md; docs/SCENARIO.md, "What is refused, and how"; docs/TRACE.md, "Checking a trace".
 """
 
 import os
 import sys
-from collections.abc import Iterator
+from collections.abc import Callable, Iterator
 from dataclasses import dataclass
 from enum import IntEnum
 from io import BytesIO
@@ -16,6 +16,8 @@ from model.band import bands
 from model.check import Fault, check
 from model.field_file import respond
 from model.generator import generated
+from model.judge import Terms
+from model.judge_log import Breaches, LineRefused, judge
 from model.live import live
 from model.overlaps import OverlapFault, overlap_lines
 from model.run import trace_lines
@@ -34,6 +36,7 @@ class Status(IntEnum):
     WRITE_FAULT = 4
     NOT_A_TRACE = 5
     OVERLAP = 7
+    UNSAFE = 8
 
 
 class ReadFault(Exception):
@@ -76,6 +79,27 @@ def refused(status: Status, line: str) -> Answer:
     return Answer(status, said=line.encode(errors="surrogateescape") + b"\n")
 
 
+def pieces_of(command: given.Live | given.Judge, read: Callable[[], bytes]) -> Iterator[bytes]:
+    """Yields what a command that answers line by line writes."""
+    if isinstance(command, given.Live):
+        return live(read)
+    return judge(read, Terms(command.tolerance, command.joined))
+
+
+def streamed(command: given.Live | given.Judge, read: Callable[[], bytes], write: Callable[[bytes], object]) -> Answer:
+    """Answers each line before it reads on, and returns how that ended."""
+    try:
+        for output in pieces_of(command, read):
+            write(output)
+    except Refused as fault:
+        return refused(Status.SCENARIO, f"scenario: {fault}")
+    except LineRefused as fault:
+        return refused(Status.NOT_A_TRACE, f"log: {fault}")
+    except Breaches:
+        return refused(Status.UNSAFE, "log: not safe")
+    return Answer(Status.DONE)
+
+
 def reads(words: list[str]) -> bool:
     """Tells whether the words are a command that reads standard input."""
     command = given.command_of(words)
@@ -87,9 +111,11 @@ def answer(words: list[str], data: bytes) -> Answer:
     command = given.command_of(words)
     if command is None:
         return refused(Status.USAGE, USAGE)
+    if isinstance(command, (given.Live, given.Judge)):
+        output: list[bytes] = []
+        told = streamed(command, BytesIO(data).read, output.append)
+        return Answer(told.status, b"".join(output), told.said)
     try:
-        if isinstance(command, given.Live):
-            return Answer(Status.DONE, b"".join(live(BytesIO(data).read)))
         return Answer(Status.DONE, b"".join(line + b"\n" for line in lines_of(command, data)))
     except Refused as fault:
         return refused(Status.SCENARIO, f"scenario: {fault}")
@@ -122,16 +148,12 @@ def write(output: bytes) -> None:
         left = left[os.write(1, left) :]
 
 
-def hold_session() -> Answer:
+def hold_session(command: given.Live | given.Judge) -> Answer:
     """Answers each line of standard input before it reads on; returns how that ended."""
     try:
-        for output in live(read_piece):
-            write(output)
-    except Refused as fault:
-        return refused(Status.SCENARIO, f"scenario: {fault}")
+        return streamed(command, read_piece, write)
     except ReadFault:
         return refused(Status.READ_FAULT, "read fault")
-    return Answer(Status.DONE)
 
 
 def answer_at_once(words: list[str]) -> Answer:
@@ -144,8 +166,9 @@ def answer_at_once(words: list[str]) -> Answer:
 
 def main(words: list[str]) -> int:
     """Does what the words say; returns the exit status."""
+    command = given.command_of(words)
     try:
-        told = hold_session() if given.command_of(words) == given.Live() else answer_at_once(words)
+        told = hold_session(command) if isinstance(command, (given.Live, given.Judge)) else answer_at_once(words)
     except OSError:
         told = refused(Status.WRITE_FAULT, "write fault")
     sys.stderr.buffer.write(told.said)

@@ -63,7 +63,16 @@ class Overlaps:
     red: int
 
 
-Command = Union[Run, Check, Live, Respond, Band, Generate, Survey, Overlaps]
+@dataclass(frozen=True)
+class Judge:
+    """Report the breaches of a log."""
+
+    joined: bool
+    tolerance: int
+
+
+Command = Union[Run, Check, Live, Respond, Band, Generate, Survey, Overlaps, Judge]
+MOST_TOLERANCE = 20
 ALONE: dict[str, Command] = {"run": Run(), "check": Check(), "live": Live(), "respond": Respond(), "band": Band()}
 
 
@@ -101,6 +110,15 @@ def overlaps(words: list[str]) -> Command | None:
     return Overlaps(numbers[0], bytes.fromhex(told[1]), *numbers[1:])
 
 
+def judge(words: list[str]) -> Command | None:
+    """Returns the question about a log; its options are in this order."""
+    joined = words[:1] == ["--joined"]
+    rest = words[joined:]
+    told = pairs(rest, ["--tolerance"]) if rest else ["0"]
+    tolerance = None if told is None else number(told[0], 0, MOST_TOLERANCE)
+    return None if tolerance is None else Judge(joined, tolerance)
+
+
 def command_of(words: list[str]) -> Command | None:
     """Returns the command that the words are; None if they are none."""
     if not words:
@@ -110,6 +128,8 @@ def command_of(words: list[str]) -> Command | None:
         return generate(rest, Generate if first == "generate" else Survey)
     if first == "overlaps":
         return overlaps(rest)
+    if first == "judge":
+        return judge(rest)
     if first == "run" and rest:
         told = pairs(rest, ["--workers"])
         return None if told is None or number(told[0], 0, 8) is None else Run()

@@ -12,7 +12,7 @@ sys.path.append(str(Path(__file__).resolve().parents[2] / "vectors"))
 
 from damage import damaged  # noqa: E402
 
-from model.drawn import reports  # noqa: E402
+from model.drawn import logs, reports  # noqa: E402
 from model.drawn.hostile import hostile, text_of  # noqa: E402
 from model.drawn.orders import trace_in_order, with_damage  # noqa: E402
 from model.drawn.scenarios import scenario  # noqa: E402
@@ -38,6 +38,7 @@ class CaseKind(Enum):
     CHECK = "check"
     LIVE = "live"
     OVERLAPS = "overlaps"
+    JUDGE = "judge"
     RESPOND = "respond"
     BAND = "band"
     WORDS = "words"
@@ -113,6 +114,13 @@ def overlap_case(draw: Random) -> Case:
     return Case(reports.overlap_words(draw), with_damage(draw, trace) if trace and draw.random() < 0.1 else trace)
 
 
+def judge_case(draw: Random) -> Case:
+    """Draws a log of a trace, seldom with damage."""
+    trace = drawn_trace(draw)
+    log = logs.log_of(draw, trace) if trace else trace
+    return Case(logs.judge_words(draw), with_damage(draw, log) if log and draw.random() < 0.05 else log)
+
+
 def respond_case(draw: Random) -> Case:
     """Draws a field file, at times with hostile values or damage."""
     value = reports.field_file(draw)
@@ -144,6 +152,7 @@ DRAWS: dict[CaseKind, Callable[[Random], Case]] = {
     CaseKind.CHECK: check_case,
     CaseKind.LIVE: live_case,
     CaseKind.OVERLAPS: overlap_case,
+    CaseKind.JUDGE: judge_case,
     CaseKind.RESPOND: respond_case,
     CaseKind.BAND: band_case,
     CaseKind.WORDS: word_case,
@@ -155,6 +164,7 @@ OFTEN = {
     CaseKind.CHECK: 14,
     CaseKind.LIVE: 12,
     CaseKind.OVERLAPS: 4,
+    CaseKind.JUDGE: 8,
     CaseKind.RESPOND: 5,
     CaseKind.BAND: 5,
     CaseKind.WORDS: 4,

@@ -28,6 +28,7 @@ class Word(NamedTuple):
 TOOLS = (
     Word("look", "draw a trace, report its timing, write its event log"),
     Word("why", "say why a phase is green, or isn't, at a moment of a trace"),
+    Word("log", "judge, replay and compare event logs of controllers in the field"),
     Word("cabinet", "run a live cabinet that answers SNMP version 1 on loopback"),
     Word("cosim", "simulate traffic with the cabinets: SUMO's vehicles, or queues"),
     Word("street", "run the cabinets of a scenario live, each at its own port"),

@@ -5,6 +5,7 @@ of day of its clock, and the names have the times of travel.
 """
 
 import datetime
+from typing import Any
 
 from ..shared import clock
 from . import called
@@ -16,10 +17,10 @@ def names_of(words, reader):
     return called.fitting(called.read(path), path, reader.cabinets) if path else called.Called()
 
 
-def clock_of(scenario):
+def clock_of(scenario: dict[str, Any]) -> int:
     """Returns the clock with which a run starts, in ticks since midnight: the master's, else that of cabinet 1."""
     first = scenario.get("cabinets", [{}])[0]
-    return scenario.get("master", {}).get("clock") or first.get("clock", 0)
+    return int(scenario.get("master", {}).get("clock") or first.get("clock", 0))
 
 
 def settle(words, names, reader):

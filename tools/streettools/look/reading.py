@@ -3,6 +3,7 @@
 import io
 import os
 import sys
+from collections.abc import Callable
 
 from ..shared.fault import Fault
 from ..shared.trace_records import NotATrace
@@ -57,7 +58,7 @@ class Checked(TraceReader):
             raise Fault(f"line {self.line} is not a line of a trace: the trace ends before its Z line")
 
 
-def read(name, is_checked, show):
+def read(name: str | None, is_checked: bool, show: Callable[["Checked"], object]) -> None:
     """Opens a trace, and lets it be shown. A terminal shows a bar, after a second. If the text can't be shown, the
     fault that it isn't a trace is reported first."""
     stream, called = text(name, is_checked)

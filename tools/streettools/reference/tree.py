@@ -19,6 +19,7 @@ TOP = pathlib.Path(__file__).resolve().parents[3]
 MODULES = {
     "look": ["look.words"],
     "why": ["why.command"],
+    "log": ["log.words"],
     "plan": ["plan.command"],
     "sweep": ["sweep.words", "sweep.best.words", "sweep.given_trace", "sweep.draw"],
     "cosim": [f"cosim.{module}" for module, _ in COSIM.values()],

@@ -120,6 +120,15 @@ class Noted(NamedTuple):
     words: str
 
 
+class Marked(NamedTuple):
+    """A remark of a tool at a tick, which no line of a trace has: its kind, and its words."""
+
+    cabinet: int
+    tick: int
+    kind: str
+    words: str
+
+
 class RoundEnd(NamedTuple):
     """A round is over at this tick."""
 
@@ -127,4 +136,4 @@ class RoundEnd(NamedTuple):
     tick: int
 
 
-Happening = Frame | Input | Answered | Ended | Noted | RoundEnd
+Happening = Frame | Input | Answered | Ended | Noted | Marked | RoundEnd

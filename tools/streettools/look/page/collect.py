@@ -4,23 +4,47 @@ Frames are kept as they are in the trace; all else that needs the tables in forc
 pictures.
 """
 
-from typing import Any, NamedTuple
+from collections.abc import Iterator
+from typing import Any, NamedTuple, Protocol
 
 from streettools.shared import answers
 from streettools.shared.answers import Cancelled, ClockNamed, Requested
 from streettools.shared.cabinet import changes, mode_of, opened
-from streettools.shared.trace_records import Answered, Ended, Frame, Happening, Input, Load, Noted, RoundEnd
+from streettools.shared.trace_records import Answered, Ended, Frame, Happening, Input, Load, Marked, Noted, RoundEnd
 from streettools.shared.plans import coordinated
 from streettools.shared.tables import ALL
-from streettools.shared.trace_reader import TraceReader
 
 from .tables import FIELDS, Table, Words
 
-KINDS = ("note", "accepted", "refused", "clock", "priority")
+KINDS = ("note", "accepted", "refused", "clock", "priority", "breach")
 """The kinds of marks; `parts/marks.js` has their letters."""
 
 CALLS = ("veh", "ped", "preempt")
-NOTE, ACCEPTED, REFUSED, CLOCK, PRIORITY = range(len(KINDS))
+NOTE, ACCEPTED, REFUSED, CLOCK, PRIORITY, BREACH = range(len(KINDS))
+
+
+class Readable(Protocol):
+    """What a page is made of: the reader of a trace, or of something else that has cabinets and what happened."""
+
+    scenario: dict[str, Any]
+
+    @property
+    def cabinets(self) -> int:
+        """Returns the number of cabinets."""
+
+    @property
+    def rounds(self) -> int:
+        """Returns the number of rounds."""
+
+    @property
+    def ticks(self) -> int:
+        """Returns the ticks of a round."""
+
+    def happenings(self) -> Iterator[Happening]:
+        """Yields what happened, for each cabinet in the order of time."""
+
+    def finish(self) -> None:
+        """Makes sure that all was read."""
 
 
 class Shared(NamedTuple):
@@ -88,6 +112,8 @@ class CabinetNumbers:
                 self.mark(tick, NOTE, f"master notes: {words}")
             case Answered(_, tick, _, str() as digits):
                 self.answered(tick, digits)
+            case Marked(_, tick, kind, words):
+                self.mark(tick, KINDS.index(kind), words)
 
     def ended(self, tick: int, load: Load) -> None:
         """Keeps the end of a download."""
@@ -150,7 +176,7 @@ class CabinetNumbers:
                 self.side = side
 
 
-def collect(reader: TraceReader) -> tuple[list[CabinetNumbers], Shared]:
+def collect(reader: Readable) -> tuple[list[CabinetNumbers], Shared]:
     """Reads the trace and returns what is kept of each cabinet, and the texts that they share."""
     shared = Shared(Words(), Words(), Words(), Words())
     cabinets = [CabinetNumbers(reader.scenario, number, shared) for number in range(1, reader.cabinets + 1)]

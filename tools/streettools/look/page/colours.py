@@ -8,7 +8,10 @@ SIGNALS = {
     "flashing": "#e69f00",
 }  # fmt: skip
 MODES = {"S": "#ced4da", "F": "#d6ebf8", "K": "#fbf3bf", "C": "#cdeadf", "E": "#f5d3bd", "X": "#e39a6b", "P": "#e3bcd2"}
-MARKS = {"note": "#0072b2", "accepted": "#009e73", "refused": "#d55e00", "clock": "#56707f", "priority": "#cc79a7"}
+MARKS = {
+    "note": "#0072b2", "accepted": "#009e73", "refused": "#d55e00", "clock": "#56707f", "priority": "#cc79a7",
+    "breach": "#8b0000",
+}  # fmt: skip
 BANDS = {"outbound": "#0072b2", "inbound": "#d55e00"}
 LINES = {
     "zero": "#0072b2", "met": "#0072b2", "away": "#c2410c", "barrier": "#22262a", "call": "#56b4e9",

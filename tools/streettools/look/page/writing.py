@@ -16,9 +16,8 @@ from streettools.shared.status import Status
 
 from ...shared.fault import Fault
 from ..called import Called
-from ..reading import Checked
 from . import colours
-from .collect import CALLS, KINDS, CabinetNumbers, Shared, collect
+from .collect import CALLS, KINDS, CabinetNumbers, Readable, Shared, collect
 from .tables import FIELDS, packed
 
 HERE = pathlib.Path(__file__).resolve().parent / "parts"
@@ -33,11 +32,12 @@ CODE = (
 
 class Asked(NamedTuple):
     """The options in addition to the trace: the street's cabinets in order, the ticks of travel between them or None,
-    and the seconds from midnight to tick 0, or None."""
+    and the seconds from midnight to tick 0, or None; whether breaches are marked."""
 
     street: list[int]
     travel: list[int] | None
     start: float | None
+    judged: bool = False
 
 
 def part(name: str) -> str:
@@ -80,7 +80,7 @@ def cabinet_head(numbers: CabinetNumbers, names: Called) -> dict[str, Any]:
 
 
 def head(
-    reader: Checked, cabinets: list[CabinetNumbers], shared: Shared, names: Called, asked: Asked
+    reader: Readable, cabinets: list[CabinetNumbers], shared: Shared, names: Called, asked: Asked
 ) -> dict[str, Any]:
     """Returns all of a page that isn't a number of a table."""
     return {
@@ -88,6 +88,7 @@ def head(
         "rounds": reader.rounds,
         "ticks": reader.ticks,
         "start": asked.start,
+        "judged": asked.judged,
         "street": asked.street,
         "travel": asked.travel,
         "texts": {field: words.texts() for field, words in shared._asdict().items()} | {"kinds": KINDS, "calls": CALLS},
@@ -117,7 +118,7 @@ def page(top: dict[str, Any], data: str) -> Iterator[str]:
         yield filled[text] if place % 2 else text
 
 
-def write(reader: Checked, names: Called, asked: Asked, path: str) -> None:
+def write(reader: Readable, names: Called, asked: Asked, path: str) -> None:
     """Reads the trace and writes its page."""
     cabinets, shared = collect(reader)
     reader.finish()

@@ -1,11 +1,12 @@
-/* Marks: what the master notes, what became of downloads, refused Sets, clocks that were set, priority requests. */
+/* Marks: what the master notes, what became of downloads, refused Sets, clocks that were set, priority requests; and in a
+log that was judged, breaches. */
 const Marks = (() => {
-  const LETTERS = { note: "N", accepted: "D", refused: "R", clock: "T", priority: "B" };
+  const LETTERS = { note: "N", accepted: "D", refused: "R", clock: "T", priority: "B", breach: "!" };
   const WORDS = {
     note: "master's note", accepted: "download accepted", refused: "refused", clock: "clock set",
-    priority: "priority request",
+    priority: "priority request", breach: "breach of the plan",
   };
-  const ORDER = ["refused", "accepted", "clock", "priority", "note"];
+  const ORDER = ["breach", "refused", "accepted", "clock", "priority", "note"];
   const kind = (cabinet, place) => Data.head.texts.kinds[cabinet.marks.kind[place]];
   const words = (cabinet, place) => Data.head.texts.words[cabinet.marks.words[place]];
 
@@ -23,12 +24,12 @@ const Marks = (() => {
     }
   }
 
-  /* The marks whose letters have room: refusals before all others, notes last. Of many marks only downloads and
-  refusals have letters. */
+  /* The marks whose letters have room: refusals before all others, notes last. Of many marks only downloads,
+  refusals and breaches have letters. */
   function lettered(cabinet, low, high) {
     const { x, width } = View.state, taken = new Map(), found = [];
     const isFree = (at, slot) => [slot - 1, slot, slot + 1].every(it => !(Math.abs(taken.get(it) - at) < 11));
-    for (const name of high - low > width / 30 ? ORDER.slice(0, 2) : ORDER) {
+    for (const name of high - low > width / 30 ? ORDER.slice(0, 3) : ORDER) {
       for (let i = low; i < high; i += 1) {
         const at = x(cabinet.marks.tick[i]), slot = Math.floor(at / 11);
         if (kind(cabinet, i) !== name || !isFree(at, slot)) continue;
@@ -39,12 +40,12 @@ const Marks = (() => {
     return found;
   }
 
-  /* A line for each mark; of many in a column of pixels the first stands, and each refusal. */
+  /* A line for each mark; of many in a column of pixels the first stands, and each refusal and breach. */
   function drawLines(context, cabinet, low, high, y, height) {
     let last = -Infinity;
     for (let i = low; i < high; i += 1) {
       const at = View.state.x(cabinet.marks.tick[i]), name = kind(cabinet, i);
-      if (at - last < 1 && name !== "refused") continue;
+      if (at - last < 1 && name !== "refused" && name !== "breach") continue;
       last = at;
       context.fillStyle = Data.head.colours.marks[name];
       context.fillRect(at - 0.75, y, 1.5, height);

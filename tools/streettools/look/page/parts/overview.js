@@ -80,7 +80,7 @@ const Overview = (() => {
     const named = { ...Text.MODES, E: "ending (for flash)" }, { met, away } = colours.lines;
     const modes = Object.entries(named).map(([letter, words]) => [colours.modes[letter], letter, words]);
     const zeros = [[met, "·", "local zero on the offset", "#fff"], [away, "|", "local zero late or early", "#fff"]];
-    const kinds = Object.entries(Marks.LETTERS);
+    const kinds = Object.entries(Marks.LETTERS).filter(([kind]) => kind !== "breach" || Data.head.judged);
     const marks = kinds.map(([kind, letter]) => [colours.marks[kind], letter, Marks.WORDS[kind], "#fff"]);
     Page.explain(panel, [...modes, ...zeros, ...marks]);
   }
