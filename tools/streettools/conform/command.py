@@ -172,7 +172,9 @@ def conformed(given: argparse.Namespace, tests: list[scripts.Script], where: tup
             command = device.get([CONTROL]).get(CONTROL, 0)
             saying.printed("".join(f"{it}\n" for it in planned(tests, tables, hands, command)))
             return Status.DONE
-        bench, more = bench_of(device, hands, given.speed, tables)
+        bench, more = bench_of(
+            device, hands, given.speed, tables, lambda: tables_read(where, given.community, given.sheet)[0]
+        )
         report = Report(given.where, program_words(program), counts=device.counts, notes=[*notes, *more])
         run_all(bench, tests, str(program), report)
         if given.load:

@@ -21,6 +21,7 @@ LEAD = 5
 """The polls before the first act."""
 AT_ONCE = 16
 """The messages that wait for their answers at once, if each message advances the device's time by a known step."""
+LOADING = (steps.STAGE, steps.VERIFY, steps.FORCE, steps.DISCARD)
 SETTLED = 3
 """The polls that may follow the last act, in ticks of an act without a sample after it."""
 
@@ -75,6 +76,10 @@ class Bench:
     in_force: Tables
     command: int = 0
     has_transactions: bool = True
+    has_begun: bool = False
+    """Whether the test that is under way has set something."""
+    read: Callable[[], Tables] = Tables
+    """Reads the tables of the device."""
     advance: Callable[[float], object] = lambda seconds: None
     """Is called with the seconds of the device's time that a part of a test took."""
 
@@ -94,8 +99,12 @@ class Drive:
         self.queue = [act for act in (script.clock, script.start) if act] + list(script.acts)
         self.end = LEAD + script.ticks
         self.polls = 0
+        self.is_of_load = False
+        """Whether the pending messages are those of a load: each waits for the answer to the one before."""
         self.tables = bench.in_force.copy()
         self.quiet_until = 0
+        self.poll_at = 0.0
+        """When the next poll is sent, by this machine's clock."""
         self.found = Driven()
 
     def run(self) -> Driven:
@@ -153,6 +162,7 @@ class Drive:
             self.bench.hands.do(act)
             self.slots.append(Slot(act, None, None))
             return True
+        self.is_of_load = act.kind in LOADING
         cells: list[Any] = self.script.load(act.name, self.tables) if act.kind == steps.STAGE else []
         messages, place = self.bench.hands.messages(act, cells)
         self.pending = [(it, act if at == place else None) for at, it in enumerate(messages)]
@@ -168,10 +178,14 @@ class Drive:
                 break
             if self.due(at):
                 break
-            if self.pending:
-                sent.append((*self.pending.pop(0), False))
-            else:
+            if not self.pending:
                 sent.append((self.next_poll(), None, True))
+            elif self.is_of_load and sent:
+                break
+            else:
+                sent.append((*self.pending.pop(0), False))
+                if self.is_of_load:
+                    break
             at += self.bench.step
         answers = self.bench.device.exchange([it for it, _, _ in sent])
         for (asked, act, is_poll), answer in zip(sent, answers):
@@ -180,17 +194,21 @@ class Drive:
     # with a pace: one message at a time, when it is its time
 
     def turn(self, at: int) -> None:
-        """Sends what is to be sent now, and waits for the time of the next poll."""
-        self.due(at)
+        """Sends what is to be sent now, or waits until something is. A poll follows each act at once: it dates the
+        act."""
+        did = self.due(at)
         while self.pending:
             asked, act = self.pending.pop(0)
             self.take(asked, act, False, self.bench.device.exchange([asked])[0])
-        if at >= self.quiet_until:
+            did = True
+        now = time.monotonic()
+        if at >= self.quiet_until and (did or now >= self.poll_at):
+            self.poll_at = max(self.poll_at, now) + 1 / (POLLS * self.bench.speed)
             self.polled()
-        upcoming = self.queue[0].at + LEAD if self.queue else self.end
-        wait = min(1.0, max(0, upcoming - at)) / (POLLS * self.bench.speed)
-        back, (_, received) = self.last_sample()
-        time.sleep(max(0.0, wait - (time.monotonic() - received)) if back == 0 else 0.1 / self.bench.speed)
+            return
+        until = self.queue[0].at + LEAD - at if self.queue else 1
+        wait = max(0.0, until / (POLLS * self.bench.speed))
+        time.sleep(min(wait, max(0.0, self.poll_at - now)) if at >= self.quiet_until else min(wait, 0.05))
 
     def next_poll(self) -> Asked:
         """Returns the next poll."""

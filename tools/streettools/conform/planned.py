@@ -34,6 +34,7 @@ def sets_of(script: Script, tables: Tables, hands: Hands) -> Iterator[str]:
     """Yields the Sets of a test, in order."""
     first, last = name_of(INPUTS[0]), name_of(INPUTS[-1])
     yield f"{first} to {last} = 0, those that aren't 0"
+    yield f"{name_of(TRANSACTION)} = {NORMAL}, if it isn't"
     yield f"{name_of(CONTROL)} = {FLASH}"
     begun = tables_before(script, tables)
     yield from loaded(tables, begun)

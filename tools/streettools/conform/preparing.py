@@ -32,11 +32,13 @@ def set_or_tell(bench: Bench, bindings: Bindings) -> None:
 
 
 def release(bench: Bench) -> None:
-    """Turns off the inputs that are on."""
+    """Turns off the inputs that are on, and ends a transaction that is open."""
     for name, value in bench.device.get(INPUTS).items():
         if value:
             set_or_tell(bench, [(name, 0)])
     bench.hands.released()
+    if bench.has_transactions and bench.device.get([TRANSACTION]).get(TRANSACTION) != NORMAL:
+        set_or_tell(bench, [(TRANSACTION, NORMAL)])
 
 
 def to_flash(bench: Bench) -> None:

@@ -1,6 +1,7 @@
 """What is read of a device before the tests: its tables, how its time runs, its command."""
 
 import time
+from collections.abc import Callable
 from typing import Any
 
 from ..plan import live, sources, walk
@@ -100,8 +101,10 @@ def is_stamped(device: Device, speed: float) -> bool:
     return abs(second - first - due) <= CLOSE * due + 3
 
 
-def bench_of(device: Device, hands: Hands, speed: float, tables: Tables) -> tuple[Bench, list[str]]:
-    """Returns the bench of a device, and what is said about it."""
+def bench_of(
+    device: Device, hands: Hands, speed: float, tables: Tables, read: Callable[[], Tables]
+) -> tuple[Bench, list[str]]:
+    """Returns the bench of a device, and what is said about it. `read` reads its tables again."""
     notes = []
     watch = Watch(device)
     step = step_of(device) if speed == STEP else 0
@@ -113,5 +116,6 @@ def bench_of(device: Device, hands: Hands, speed: float, tables: Tables) -> tupl
         notes.append("it doesn't have phaseStatusGroupPhaseOns: red clearance isn't distinguished from red")
     found = device.get([CONTROL, TRANSACTION])
     bench = Bench(device, watch, hands, speed, step, stamped, tables.copy(), tables.copy())
+    bench.read = read
     bench.command, bench.has_transactions = found.get(CONTROL, 0), TRANSACTION in found
     return bench, notes

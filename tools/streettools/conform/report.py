@@ -55,7 +55,8 @@ def why(result: Result) -> list[str]:
 
 def summary(report: Report) -> str:
     """Returns the results in one line."""
-    return f"{len(report.results)} tests: " + ", ".join(f"{report.count(it)} {it}" for it in OUTCOMES)
+    count = len(report.results)
+    return f"{count} test{'s'[: count != 1]}: " + ", ".join(f"{report.count(it)} {it}" for it in OUTCOMES)
 
 
 def timing(counts: Counts) -> str:

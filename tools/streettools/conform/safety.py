@@ -12,10 +12,13 @@ from ..shared import independent
 from ..shared.cells import cells_between
 from ..shared.tables import Tables
 from . import steps
+from .comparing import has_due
 from .driving import LEAD, Driven
 from .expected import Expected, START
 from .objects import FLASH, FREE, Display
 from .scripts import Script
+from .sentences import COLOURS, SIGNALS
+from .watching import Sample, Span
 
 PHASES = 16
 TOLERANCE = 2
@@ -33,17 +36,33 @@ def mode_of(shown: Display, has_started: bool) -> str:
     return "F" if has_started else "S"
 
 
-def frame_lines(driven: Driven, forced: list[int], modes: Expected | None = None) -> list[str]:
-    """Returns the F lines of a device's display, at the ticks of the samples. `forced` are the ticks at which loads
-    came into force: the version counts them. A mode that the device doesn't report is that of the proved cabinet."""
+def filled(driven: Driven, due: Expected, has_clearance: bool) -> Iterator[Sample]:
+    """Yields the samples. If two samples agree with the proved cabinet and there are ticks between them, its displays
+    are those of these ticks: nothing else is known of them."""
+    before: Sample | None = None
+    for sample in driven.samples:
+        agrees = has_due(sample, due, has_clearance)
+        if before is not None and agrees and has_due(before, due, has_clearance):
+            count = len(sample.display.vehicles)
+            for tick in range(before.span.last + 1, sample.span.first):
+                it = due.at(START + tick).display()
+                shown = Display(it.vehicles[:count], it.pedestrians[:count], it.pattern, None, it.stage)
+                yield Sample(Span(tick, tick), shown)
+        yield sample
+        before = sample
+
+
+def frame_lines(driven: Driven, forced: list[int], due: Expected, has_clearance: bool) -> list[str]:
+    """Returns the F lines of a device's display. `forced` are the ticks at which loads came into force: the version
+    counts them. A mode that the device doesn't report is that of the proved cabinet."""
     found: list[str] = []
     before: object = None
-    for sample in driven.samples:
+    for sample in filled(driven, due, has_clearance):
         shown = sample.display
         is_dark, tick = shown.is_dark(), START + sample.span.last
         mode = mode_of(shown, not is_dark or before is not None)
-        if not shown.stage and mode == "F" and modes is not None:
-            mode = modes.at(tick).mode
+        if not shown.stage and mode == "F":
+            mode = due.at(tick).mode
         version = sum(it < sample.span.first for it in forced)
         what = (shown.vehicles.ljust(PHASES, "R"), shown.pedestrians.ljust(PHASES, "D"), mode, version)
         if what != before and "?" not in what[0] + what[1]:
@@ -52,7 +71,9 @@ def frame_lines(driven: Driven, forced: list[int], modes: Expected | None = None
     return found
 
 
-def lines_of(driven: Driven, script: Script, tables: Tables, expected: Expected) -> tuple[dict[str, Any], list[str]]:
+def lines_of(
+    driven: Driven, script: Script, tables: Tables, expected: Expected, has_clearance: bool
+) -> tuple[dict[str, Any], list[str]]:
     """Returns the scenario of the device, and the lines of its display: F lines, and an L line for each load that came
     into force."""
     loads, forced, staged = [], [], None
@@ -73,7 +94,7 @@ def lines_of(driven: Driven, script: Script, tables: Tables, expected: Expected)
     scenario: dict[str, Any] = {"version": 1, "rounds": 200, "ticks": 600, "cabinets": [cabinet]}
     if loads:
         scenario["loads"] = loads
-    return scenario, with_loads(frame_lines(driven, forced, expected))
+    return scenario, with_loads(frame_lines(driven, forced, expected, has_clearance))
 
 
 def with_loads(frames: list[str]) -> list[str]:
@@ -107,6 +128,8 @@ def breaches_of(scenario: dict[str, Any], lines: list[str], tolerance: int = 0) 
         return []
     street = Street(1, whole.cabinets[0], versions, seen, ticks=seen[-1].tick)
 
+    names = SIGNALS | COLOURS
+
     def lengths() -> Iterator[str]:
         for of_signals in (False, True):
             for it in intervals(street, of_signals):
@@ -116,7 +139,7 @@ def breaches_of(scenario: dict[str, Any], lines: list[str], tolerance: int = 0) 
                 is_long = may.most is not None and it.lasted > may.most + tolerance
                 if it.lasted < may.least - tolerance or is_long:
                     most = "" if may.most is None or may.most == may.least else f" to {may.most / 10:g}"
-                    what = f"phase {it.phase} shows {it.shows} for {it.lasted / 10:g} s"
+                    what = f"phase {it.phase} shows {names[it.shows]} for {it.lasted / 10:g} s"
                     yield f"{what}; {may.least / 10:g}{most} s by its tables"
 
     return [*dict.fromkeys(without_tick(it) for it in apart(street)), *lengths()]

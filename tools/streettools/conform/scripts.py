@@ -12,7 +12,7 @@ from ..shared.fault import Fault
 from ..shared.given import Given, Wrong
 from ..shared.tables import Tables
 from .cell_words import cells_of
-from .steps import CLOCK, PATTERN, Act, acts_of, all_acts, of_scenario
+from .steps import CLOCK, DISCARD, FORCE, PATTERN, STAGE, VERIFY, Act, acts_of, all_acts, of_scenario
 from .objects import FLASH, FREE
 
 LIBRARY = pathlib.Path(__file__).with_name("library")
@@ -105,6 +105,11 @@ def test_of(subject: str, table: Given) -> Script:
     for act in acts:
         if act.name and act.name not in loads:
             raise table.refuse("loads", f"has no {act.name}, which {act.words!r} asks for")
+    known: set[str] = set()
+    for act in acts:
+        known = set() if act.kind in (STAGE, FORCE) else known | {act.kind}
+        if act.kind == DISCARD and VERIFY in known:
+            raise table.refuse("steps", "discards a load after its verification: NORMAL puts verified tables in force")
     lasts = table.within("lasts", (int, float), 1, 7200, 60)
     clock, start = table.read("clock", clock_of), table.read("start", started, started("free"))
     if clock is None and any(it.kind == PATTERN and it.number not in (FREE, FLASH) for it in (start, *acts)):

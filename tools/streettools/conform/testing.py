@@ -1,5 +1,6 @@
 """One test of a device, from its preparation to its result."""
 
+import contextlib
 import time
 from collections.abc import Sequence
 from dataclasses import dataclass, field
@@ -35,17 +36,22 @@ class Result:
 
 def tested(bench: Bench, script: Script, program: str) -> Result:
     """Does a test, and returns its result; whatever the device does, there is one."""
-    began = time.monotonic()
+    began, bench.has_begun = time.monotonic(), False
     try:
         result = judged(bench, script, program)
-    except CantTell as why:
-        result = Result(script, UNKNOWN, [str(why)])
-    except Restarted as why:
-        result = Result(script, UNKNOWN, [str(why)])
-    except (Fault, Wrong) as why:
+    except (CantTell, Restarted, Fault, Wrong) as why:
         result = Result(script, UNKNOWN, str(why).splitlines())
+        if bench.has_begun:
+            reread(bench)
     result.seconds = time.monotonic() - began
     return result
+
+
+def reread(bench: Bench) -> None:
+    """Reads the tables of a device again after a test that didn't end: it may have restarted, or a load may be in
+    force. If it doesn't answer, its tables are taken as before."""
+    with contextlib.suppress(Fault):
+        bench.in_force = bench.read()
 
 
 def judged(bench: Bench, script: Script, program: str) -> Result:
@@ -53,6 +59,7 @@ def judged(bench: Bench, script: Script, program: str) -> Result:
     tables = tables_before(script, bench.original)
     if lacking := list(dict.fromkeys(needs.lacking(script, tables, bench.watch.phases()))):
         return Result(script, UNKNOWN, [f"the device can't do this test: {it}" for it in lacking])
+    bench.has_begun = True
     prepare(bench, tables)
     bench.watch.use({it.number for it in script.acts if it.kind == steps.PREEMPT}, set(tables.enabled()))
     driven = Drive(bench, script).run()
@@ -65,7 +72,7 @@ def judged(bench: Bench, script: Script, program: str) -> Result:
 
     found = compared(driven, run, bench.watch.has_clearance)
     words = sentences.sentences(driven, found) + loads_differ(driven, found.expected) + refusals(driven)
-    scenario, lines = safety.lines_of(driven, script, tables, found.expected)
+    scenario, lines = safety.lines_of(driven, script, tables, found.expected, bench.watch.has_clearance)
     is_exact = all(it.span.first == it.span.last for it in driven.samples)
     breaches = safety.breaches_of(scenario, lines, 0 if is_exact else safety.TOLERANCE)
     outcome = DIFFER if words or breaches else PASS
