@@ -1,10 +1,11 @@
-"""Cells of tables in words, as `phase 4 min_green 10` or `preempt 1 dwell 2,5`: the names and units of a timing sheet."""
+"""Cells of tables in words, as `phase 4 min_green 10` or `preempt 1 dwell 2,5`: with the names of a timing sheet."""
 
+from collections.abc import Mapping
 from typing import Any
 
 from ..plan.fields import (
-    OPTIONS, PATTERN_FIELDS, PHASE_FIELDS, PREEMPT_FIELDS, SPLIT_MODES, SPLIT_TIME, UNIT_FIELDS, Field, Phases, Time, Word,
-    flag, read_option,
+    OPTIONS, PATTERN_FIELDS, PHASE_FIELDS, PREEMPT_FIELDS, SPLIT_MODES, SPLIT_TIME, UNIT_FIELDS, Field, Phases, Time,
+    Word, flag, read_option,
 )  # fmt: skip
 from ..shared.cells import put, value, written
 from ..shared.given import Wrong
@@ -13,7 +14,9 @@ from ..shared.tables import Cell, Tables
 EXAMPLES = "phase 4 min_green 10; coordination correction shortway; pattern 2 cycle 100; split 1 phase 4 time 20; " \
     "sequence 2 ring 1 2,1,3,4; preempt 1 dwell 2,5"  # fmt: skip
 FLAGS = {"true": True, "false": False}
-TABLES = {"phase": (PHASE_FIELDS, 16), "pattern": (PATTERN_FIELDS, 48), "preempt": (PREEMPT_FIELDS, 8)}
+TABLES: dict[str, tuple[Mapping[str, Field], int]] = {
+    "phase": (PHASE_FIELDS, 16), "pattern": (PATTERN_FIELDS, 48), "preempt": (PREEMPT_FIELDS, 8),
+}  # fmt: skip
 
 
 def row_of(word: str, what: str, most: int) -> int:
@@ -48,7 +51,8 @@ def split_cell(words: list[str], tables: Tables) -> tuple[Cell, Any]:
     """Returns a cell of the splits: `N phase P time|mode|coordinated VALUE`."""
     if len(words) < 5 or words[1] != "phase":
         raise Wrong("expected a split, as split 1 phase 4 time 20")
-    split, phase, name, text = row_of(words[0], "split", 32), row_of(words[2], "phase", 16), words[3], " ".join(words[4:])
+    split, phase = row_of(words[0], "split", 32), row_of(words[2], "phase", 16)
+    name, text = words[3], " ".join(words[4:])
     if name == "time":
         return ("split", split, phase, 3), read(SPLIT_TIME, text)
     if name == "mode":
@@ -81,7 +85,7 @@ def cell_of(line: str, tables: Tables) -> tuple[Cell, Any]:
     fields, most = TABLES[table]
     number, name, text = row_of(words[0], table, most), words[1], " ".join(words[2:])
     if table == "phase" and name in OPTIONS:
-        given: object = FLAGS[text] if text in FLAGS else text.split(",")
+        given: object = FLAGS.get(text, text if text == "none" else text.split(","))
         flag(given) if name in ("enabled", "locking", "dual_entry") else None
         return ("phase", number, 21), read_option(name, given, value(tables, ("phase", number, 21)))
     if name not in fields:

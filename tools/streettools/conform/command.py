@@ -6,6 +6,7 @@ import ipaddress
 import pathlib
 import statistics
 import sys
+from typing import TYPE_CHECKING
 
 from ..shared import saying
 from ..shared.commandline import Parser, add_json, add_program, number
@@ -15,9 +16,14 @@ from ..shared.progress import bar
 from ..shared.status import Status
 from . import scripts
 
+if TYPE_CHECKING:
+    from .driving import Bench
+    from .load import Loaded
+    from .report import Report
+
 ABOUT = (
-    "Tests a controller: gives it and the proved cabinet the same calls and commands, watches both, and says where they "
-    "differ for the first time."
+    "Tests a controller: gives it and the proved cabinet the same calls and commands, watches both, and says where "
+    "they differ for the first time."
 )
 EPILOG = """\
 examples:
@@ -65,7 +71,9 @@ setattr(seconds, "takes", "0.01 to 60")
 def add_device(words: argparse.ArgumentParser) -> None:
     """Adds the options about the device."""
     words.add_argument("--community", default="public", help="the community (default: public)")
-    words.add_argument("--sheet", metavar="FILE", help="a timing sheet with what the device doesn't report of its tables")
+    words.add_argument(
+        "--sheet", metavar="FILE", help="a timing sheet with what the device doesn't report of its tables"
+    )
     words.add_argument(
         "--speed", type=speed, default=1.0, metavar="N",
         help="the device's time as a multiple of real time, for simulated devices; step: each message advances it, as "
@@ -90,8 +98,9 @@ def add_load(words: argparse.ArgumentParser) -> None:
         help="after the tests, put the device under load: this number of pollers, and damaged messages",
     )  # fmt: skip
     words.add_argument(
-        "--load-time", type=number(1, 3600), default=10, metavar="S", help="how many seconds the load lasts (default: 10)"
-    )
+        "--load-time", type=number(1, 3600), default=10, metavar="S",
+        help="how many seconds the load lasts (default: 10)",
+    )  # fmt: skip
     words.add_argument(
         "--line", metavar="FILE", help="with --load: a TOML file that describes a bad line (docs/STREET.md)"
     )
@@ -104,7 +113,9 @@ def parser() -> argparse.ArgumentParser:
     words.add_argument(
         "files", metavar="FILE", nargs="*", help="tests: TOML files, or scenarios (default: the library of tests)"
     )
-    words.add_argument("--only", action="append", default=[], metavar="NAME", help="only this test or subject; may be repeated")
+    words.add_argument(
+        "--only", action="append", default=[], metavar="NAME", help="only this test or subject; may be repeated"
+    )
     words.add_argument("--list", action="store_true", help="list the tests and end; a device isn't needed")
     words.add_argument("--dry-run", action="store_true", help="list every Set of the tests and end; nothing is set")
     add_device(words)
@@ -178,7 +189,7 @@ def conformed(given: argparse.Namespace, tests: list[scripts.Script], where: tup
         report = Report(given.where, program_words(program), counts=device.counts, notes=[*notes, *more])
         run_all(bench, tests, str(program), report)
         if given.load:
-            report.load = under_load(given, where, tables)
+            report.load = under_load(given, where)
     finally:
         device.close()
         if channel is not None:
@@ -193,14 +204,12 @@ def program_words(program: pathlib.Path) -> str:
     return "the independent model (nothing is proved of it)" if str(program) == MODEL else "the proved cabinet"
 
 
-def run_all(bench: "object", tests: list[scripts.Script], program: str, report: "object") -> None:
+def run_all(bench: "Bench", tests: list[scripts.Script], program: str, report: "Report") -> None:
     """Does all tests, and gives the device its own tables and command back, even if the tests are interrupted."""
-    from .driving import Bench, CantTell
+    from .driving import CantTell
     from .preparing import restore
-    from .report import Report
     from .testing import tested
 
-    assert isinstance(bench, Bench) and isinstance(report, Report)
     shown = bar(len(tests), "test")
     try:
         for script in tests:
@@ -221,7 +230,7 @@ def run_all(bench: "object", tests: list[scripts.Script], program: str, report: 
             report.notes.append(f"the device doesn't have its own tables and command again: {why}")
 
 
-def under_load(given: argparse.Namespace, where: tuple[str, int], tables: "object") -> "object":
+def under_load(given: argparse.Namespace, where: tuple[str, int]) -> "Loaded":
     """Puts the device under load, and returns the result."""
     from ..street.line import line_of
     from . import load
@@ -248,14 +257,13 @@ def under_load(given: argparse.Namespace, where: tuple[str, int], tables: "objec
     return found
 
 
-def ended(given: argparse.Namespace, report: "object") -> int:
+def ended(given: argparse.Namespace, report: "Report") -> int:
     """Writes the reports, and returns the exit status."""
     import json
 
-    from .report import Report, as_json, text_lines, written
+    from .report import as_json, text_lines, written
     from .testing import UNKNOWN
 
-    assert isinstance(report, Report)
     for path in given.output:
         written(report, path)
     if given.json:

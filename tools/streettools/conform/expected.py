@@ -10,15 +10,16 @@ from typing import Any, NamedTuple
 
 from ..cabinet.messages import GET, SET, message, reply_of
 from ..shared.ber import number_of
-from ..shared.cells import cells_between, tables_of, with_cells
+from ..shared.cells import cells_between, with_cells
 from ..shared.oids import (
-    BEGIN, CLOCK, CONTROL, COUNTER_OF_CYCLE, FINISH, ID, PART, REQUEST, TOTAL, object_of,
+    BEGIN, CLOCK, CONTROL, COUNTER_OF_CYCLE, FINISH, ID, PART, REQUEST, TOTAL,
 )  # fmt: skip
 from ..shared.program import Died
 from ..shared.session import Answer, Session
 from ..shared.tables import Tables
 from . import steps
 from .driving import CantTell, Driven
+from .hands import bindings_of
 from .objects import FLASH, FREE, Display
 from .scripts import Script
 from .steps import Act
@@ -111,7 +112,7 @@ class Requests:
         self.loads += 1
         self.tables = with_cells(self.tables, cells)
         load = (ID, self.loads)
-        bindings = [(object_of(tuple(it[:-1])), bytes.fromhex(it[-1]) if isinstance(it[-1], str) else it[-1]) for it in cells]
+        bindings = bindings_of(cells)
         parts = [bindings[at : at + PART_CELLS] for at in range(0, len(bindings), PART_CELLS)]
         return [
             self.frame([(BEGIN, self.loads)]),
@@ -152,7 +153,9 @@ def expected(
         raise CantTell(f"the proved cabinet doesn't accept these tables: {fault}") from None
 
 
-def ran(program: str, scenario: dict[str, Any], events: list[tuple[int, bytes]], kept: list[bytes], last: int) -> Expected:
+def ran(
+    program: str, scenario: dict[str, Any], events: list[tuple[int, bytes]], kept: list[bytes], last: int
+) -> Expected:
     """Runs a session with events at ticks, and takes its answers."""
     found = Expected(last=last)
     with Session(program, scenario) as session:
@@ -191,8 +194,3 @@ def take(found: Expected, tick: int, answer: Answer) -> None:
             for name, _, content in reply.bindings:
                 if name == COUNTER_OF_CYCLE:
                     found.counters[tick] = number_of(content)
-
-
-def tables_of_cabinet(cabinet: dict[str, Any]) -> Tables:
-    """Returns the tables of a cabinet of a scenario."""
-    return tables_of(cabinet)

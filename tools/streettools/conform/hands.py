@@ -8,7 +8,7 @@ from ..shared.oids import CONTROL, GLOBAL_TIME, PED_CALL, PREEMPT_STATE, REQUEST
 from ..shared.oids import object_of
 from . import steps
 from .channels import Channel
-from .device import Asked
+from .device import Asked, Bindings
 from .objects import GROUP
 from .steps import Act
 
@@ -20,11 +20,14 @@ CELLS_AT_ONCE = 12
 BY_CHANNEL = (steps.VEH, steps.PED, steps.PREEMPT)
 
 
+def bindings_of(cells: list[list[Any]]) -> Bindings:
+    """Returns the bindings that set cells."""
+    return [(object_of(tuple(it)), bytes.fromhex(new) if isinstance(new, str) else new) for *it, new in cells]
+
+
 def cells_sent(cells: list[list[Any]]) -> list[Asked]:
     """Returns the Sets of cells."""
-    bindings = []
-    for *cell, new in cells:
-        bindings.append((object_of(tuple(cell)), bytes.fromhex(new) if isinstance(new, str) else new))
+    bindings = bindings_of(cells)
     return [Asked(SET, bindings[at : at + CELLS_AT_ONCE]) for at in range(0, len(bindings), CELLS_AT_ONCE)]
 
 

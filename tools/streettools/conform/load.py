@@ -51,15 +51,16 @@ class Loaded:
         """Yields the result in words."""
         share = 100 * self.answers / self.polls if self.polls else 0
         yield (
-            f"under load: {self.pollers} pollers for {self.seconds:g} s, {self.hostile} damaged messages: {self.answers} of "
-            f"{self.polls} polls answered ({share:.0f}%)"
+            f"under load: {self.pollers} pollers for {self.seconds:g} s, {self.hostile} damaged messages: "
+            f"{self.answers} of {self.polls} polls answered ({share:.0f}%)"
         )
         if self.times:
             ordered = sorted(1000 * it for it in self.times)
             late = ordered[int(0.95 * (len(ordered) - 1))]
             yield (
                 f"under load: half of the answers within {statistics.median(ordered):.1f} ms "
-                f"({1000 * self.alone:.1f} ms without load), 95% within {late:.1f} ms, the last after {ordered[-1]:.1f} ms"
+                f"({1000 * self.alone:.1f} ms without load), 95% within {late:.1f} ms, the last after "
+                f"{ordered[-1]:.1f} ms"
             )
         if self.wrong:
             yield f"under load: {self.wrong} answers are not those to their polls"

@@ -1,4 +1,4 @@
-"""The picture of a test: the device above, the proved cabinet below, and a line where they differ for the first time."""
+"""The picture of a test: the device above, the proved cabinet below, and a line where the two first differ."""
 
 from collections.abc import Callable
 from typing import Any
@@ -93,9 +93,8 @@ def draw(result: Result, path: str) -> None:
     first, last = window(result)
     both = of_device(result), of_cabinet(result)
     count = len(result.driven.samples[0].display.vehicles)
-    seen = {
-        at + 1 for side in both for tick in range(first, last) for at, it in enumerate(side(tick)[0][:count]) if it != "R"
-    }
+    letters = [side(tick)[0][:count] for side in both for tick in range(first, last)]
+    seen = {at + 1 for shown in letters for at, it in enumerate(shown) if it != "R"}
     phases = sorted(seen) or [1]
     title = f"{result.script.name}: {result.outcome}"
     under = result.words[0] if result.words else result.script.shows

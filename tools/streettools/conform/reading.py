@@ -5,7 +5,7 @@ from collections.abc import Callable
 from typing import Any
 
 from ..plan import live, sources, walk
-from ..shared.cells import Lists, kinds, put, tables_of, unset, value
+from ..shared.cells import kinds, put, tables_of, value
 from ..shared.fault import Fault
 from ..shared.oids import CONTROL, TRANSACTION, object_of
 from ..shared.tables import Tables
@@ -46,7 +46,7 @@ def unread(objects: dict[Any, int | bytes], tables: Tables) -> list[tuple[Any, .
     for cell in kinds():
         if cell[0] in known_tables:
             columns[column_of(cell)] = columns.get(column_of(cell), False) or cell in there
-    alternatives = {("unit", 5): walk.BACKUP, ("unit", 7): walk.FORCE_MODE}
+    alternatives: dict[tuple[Any, ...], Any] = {("unit", 5): walk.BACKUP, ("unit", 7): walk.FORCE_MODE}
     return [it for it, is_there in columns.items() if not is_there and alternatives.get(it) not in objects]
 
 
@@ -55,7 +55,7 @@ def tables_read(where: tuple[str, int], community: str, sheet: str | None) -> tu
     gave."""
     objects = walked(where, community)
     street = walk.street_of([objects], [f"{where[0]}:{where[1]}"])
-    tables, notes = tables_of(street.scenario["cabinets"][0]), []
+    tables, notes = tables_of(street.scenario["cabinets"][0]), list[str]()
     lacking = unread(objects, tables)
     if not lacking:
         return tables, notes

@@ -66,8 +66,8 @@ def timing(counts: Counts) -> str:
     ordered = sorted(1000 * it for it in counts.seconds)
     late = ordered[int(0.95 * (len(ordered) - 1))]
     return (
-        f"{counts.answered} answers: half of them within {statistics.median(ordered):.1f} ms, 95% within {late:.1f} ms, "
-        f"the last after {ordered[-1]:.1f} ms"
+        f"{counts.answered} answers: half of them within {statistics.median(ordered):.1f} ms, 95% within {late:.1f} "
+        f"ms, the last after {ordered[-1]:.1f} ms"
     )
 
 

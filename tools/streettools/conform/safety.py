@@ -9,7 +9,7 @@ from collections.abc import Iterator
 from typing import Any
 
 from ..shared import independent
-from ..shared.cells import cells_between
+from ..shared.cells import cells_between, with_cells
 from ..shared.tables import Tables
 from . import steps
 from .comparing import has_due
@@ -76,7 +76,9 @@ def lines_of(
 ) -> tuple[dict[str, Any], list[str]]:
     """Returns the scenario of the device, and the lines of its display: F lines, and an L line for each load that came
     into force."""
-    loads, forced, staged = [], [], None
+    loads: list[dict[str, Any]] = []
+    forced: list[int] = []
+    staged: list[list[Any]] | None = None
     in_force = tables
     for done in driven.acts:
         if done.act.kind == steps.STAGE:
@@ -86,8 +88,8 @@ def lines_of(
         elif done.act.kind == steps.FORCE and staged and not done.why:
             loads.append({"round": 1, "cabinet": 1, "cells": staged})
             forced.append(done.span.last)
-            in_force, staged = in_force.copy(), None
-            in_force.put(loads[-1]["cells"])
+            in_force = with_cells(in_force, staged)
+            staged = None
         elif done.act.kind == steps.DISCARD:
             staged = None
     cabinet = {"base": "std8", "cells": cells_between(Tables("std8"), tables)}

@@ -146,9 +146,10 @@ def of_json(content: bytes, name: str) -> list[Script]:
         second = cabinet["clock"] // 10
         clock = Act(0, CLOCK, f"clock at second {second} of the day at 0 s", second)
     loads = {str(number): it["cells"] for number, it in enumerate(scenario.get("loads", ()), 1)}
+    begin, length = Act(0, PATTERN, f"pattern {start} at 0 s", start), scenario["rounds"] * scenario["ticks"]
     return [Script(
-        pathlib.Path(name).stem, "scenario", f"the inputs of {name}", (), Act(0, PATTERN, f"pattern {start} at 0 s", start),
-        tuple(of_scenario(scenario)), min(72_000, scenario["rounds"] * scenario["ticks"]), clock, dict(loads), cabinet,
+        pathlib.Path(name).stem, "scenario", f"the inputs of {name}", (), begin, tuple(of_scenario(scenario)),
+        min(72_000, length), clock, dict(loads), cabinet,
     )]  # fmt: skip
 
 

@@ -106,10 +106,8 @@ class Sides:
     def lasts(self, place: int, tick: int, shown: str) -> str:
         """Returns how long a colour lasts on both sides, if it lasts too long."""
         began, starts = self.device_since(place), self.due_before(tick, shown)
-        ends = next(
-            (self.driven.samples[it].span.first for it in range(place, len(self.driven.samples)) if self.device(it) != shown),
-            None,
-        )  # fmt: skip
+        later = range(place, len(self.driven.samples))
+        ends = next((self.driven.samples[it].span.first for it in later if self.device(it) != shown), None)
         over = self.due_since(tick)
         if began is None or ends is None or starts is None or over is None or shown in "RD" or over < starts:
             return ""
@@ -121,9 +119,8 @@ def sync_sentence(driven: Driven, compared: Compared) -> str:
     assert compared.parting is not None
     sample = driven.samples[compared.parting.place]
     counter = compared.expected.counters[START + sample.span.first]
-    return (
-        f"coordSyncStatus is {sample.display.sync} s at {at(sample.span.first)}; expected {counter // 10} s after local zero"
-    )
+    when = at(sample.span.first)
+    return f"coordSyncStatus is {sample.display.sync} s at {when}; expected {counter // 10} s after local zero"
 
 
 def pattern_word(pattern: int | None) -> str:

@@ -91,7 +91,8 @@ def set_clock(line: str, at: int, found: "re.Match[str]") -> list[Act]:
 def loaded(line: str, at: int, found: "re.Match[str]") -> list[Act]:
     """Makes a load: staged, verified, put in force."""
     kinds = (STAGE, VERIFY, FORCE)
-    return [Act(at + LOAD_STEP * place, kind, f"{line} ({kind})", name=found[1]) for place, kind in enumerate(kinds)]
+    whole = enumerate(kinds)
+    return [Act(at + LOAD_STEP * place, kind, f"{line} ({kind})", name=found[1]) for place, kind in whole]
 
 
 def staged(kind: str) -> Made:
@@ -137,8 +138,8 @@ FORMS: tuple[tuple[str, Made], ...] = (
 )
 """The forms of a step, without ` at SECONDS s` at its end."""
 KNOWN = (
-    "call 4 at 10 s; call 4 for 3 s at 10 s; push 2 at 12 s; preempt 1 for 30 s at 20 s; pattern 2 at 5 s; free at 5 s; "
-    "flash at 5 s; clock 07:30:00 at 0 s; load NAME at 30 s; stage NAME, verify, put in force or discard at 30 s; "
+    "call 4 at 10 s; call 4 for 3 s at 10 s; push 2 at 12 s; preempt 1 for 30 s at 20 s; pattern 2 at 5 s; free at 5 "
+    "s; flash at 5 s; clock 07:30:00 at 0 s; load NAME at 30 s; stage NAME, verify, put in force or discard at 30 s; "
     "priority 1 for phase 2 class 1 level 1 from 5 s to 15 s at 30 s; nothing for 60 s at 10 s; damaged messages at 9 s"
 )
 AT = re.compile(rf"(.+?) at {SECONDS}")

@@ -105,7 +105,8 @@ def loads_differ(driven: Driven, due: Expected) -> list[str]:
             if is_valid and refused:
                 found.append(f"the device accepts {done.act.words!r}; the proved cabinet refuses it by {refused}")
             elif is_valid is False and not refused:
-                found.append(f"the device finds the tables of {done.act.words!r} invalid; the proved cabinet accepts them")
+                words = f"the device finds the tables of {done.act.words!r} invalid"
+                found.append(f"{words}; the proved cabinet accepts them")
     return found
 
 

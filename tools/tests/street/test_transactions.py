@@ -427,6 +427,15 @@ def test_a_tool_with_a_new_port_for_each_message_is_one_manager():
     talk(talked)
 
 
+def test_cells_that_are_sent_right_after_the_begin_of_a_transaction_belong_to_it():
+    async def talked(it):
+        sent = [it.set(ONE, (oids.TRANSACTION, TRANSACTION)), it.set(ONE, (FIRST, 41)), it.set(ONE, (FIRST, 42))]
+        assert await asyncio.gather(*sent) == [0, 0, 0]
+        assert await it.read(oids.TRANSACTION, FIRST) == [TRANSACTION, 40]
+
+    talk(talked)
+
+
 def test_a_transaction_does_not_outlive_its_session():
     async def talked(it):
         assert [*await it.gathered(ONE, 39), await it.go_to(ONE, NORMAL, 5000)] == [0] * 4

@@ -62,7 +62,7 @@ class Cabinet:
         """Returns the reply to a datagram. The cabinet itself answers if the datagram isn't a valid message, or only
         concerns the cabinet."""
         asked = asked_of(octets) if len(octets) <= LONGEST else None
-        if asked is None or self.is_of_the_cabinet(asked):
+        if asked is None or self.is_of_the_cabinet(asked, manager):
             passed_on = functools.partial(self.street.datagram, self.number, octets)
             return await self.in_order.done(manager, False, passed_on)
         return await self.in_order.done(manager, True, functools.partial(self.answer_here, asked, octets, manager))
@@ -77,11 +77,12 @@ class Cabinet:
                     return await self.carried_out(asked, octets, manager)
         return None
 
-    def is_of_the_cabinet(self, asked: Message) -> bool:
-        """Tells whether a message is one of version 1 that names nothing of the front's."""
+    def is_of_the_cabinet(self, asked: Message, manager: Manager) -> bool:
+        """Tells whether a message is one of version 1 that names nothing of the front's. While messages of its manager
+        are carried out here, one of them may open a transaction: a cell after them waits for its turn."""
         if asked.version != V1 or asked.kind == GET_NEXT:
             return False
-        gathers = self.transaction.state == GATHERING
+        gathers = self.transaction.state == GATHERING or self.in_order.is_here(manager)
         return not any(it.arcs in OBJECTS or gathers and is_of_a_table(it.arcs) for it in asked.bindings)
 
     async def carried_out(self, asked: Message, octets: bytes, manager: Manager) -> bytes:
