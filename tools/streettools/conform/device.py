@@ -142,7 +142,9 @@ class Device:
                     continue
                 found[at] = Answer(reply, found[at].sent, time.monotonic())
                 self.counts.answered += 1
-                self.counts.seconds.append(found[at].received - found[at].sent)
+                took = found[at].received - found[at].sent
+                self.counts.seconds.append(took)
+                self.counts.late += took > self.patience
                 self.keep(reply.number, True)
                 end = time.monotonic() + self.patience
 

@@ -26,6 +26,8 @@ from .steps import Act
 
 START = 300
 """The tick of the session at the first poll. The red revert of every phase is over then."""
+AGAIN = 10
+"""How many ticks before the first poll flash is commanded again: a command may expire."""
 ROUND = 600
 PART_CELLS = 24
 STATES = (b"off", b"on")
@@ -146,6 +148,8 @@ def expected(
     reads = {START + it for it in asked}
     events += [(it, requests.frame([(COUNTER_OF_CYCLE, None)], GET)) for it in reads]
     events.sort(key=lambda it: it[0])
+    again = requests.frame([(CONTROL, FLASH)])
+    events.insert(0, (START - AGAIN, again))
     last = START + max((it.span.last for it in driven.samples), default=0) + 400
     try:
         return ran(program, scenario_of(tables), events, kept_calls(driven), last)

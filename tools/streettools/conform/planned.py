@@ -10,7 +10,7 @@ from . import steps
 from .device import Asked
 from .hands import NORMAL, TRANSACT, VERIFY, Hands, cells_sent
 from .objects import FLASH, name_of
-from .preparing import INPUTS
+from .preparing import BACKUP_TIME, INPUTS
 from .scripts import Script, tables_before
 
 
@@ -38,6 +38,8 @@ def sets_of(script: Script, tables: Tables, hands: Hands) -> Iterator[str]:
     yield f"{name_of(CONTROL)} = {FLASH}"
     begun = tables_before(script, tables)
     yield from loaded(tables, begun)
+    if begun.unit(BACKUP_TIME):
+        yield f"{name_of(CONTROL)} = {FLASH}"
     hands.released()
     for act in (script.clock, script.start, *script.acts):
         if act is None:

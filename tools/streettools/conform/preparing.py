@@ -17,6 +17,8 @@ from .hands import NORMAL, TRANSACT, VALID, VERIFY, cells_sent
 from .objects import FLASH, GROUPS, name_of
 from .watching import POLLS
 
+BACKUP_TIME = 5
+"""The column of the unit with the seconds after which a command expires."""
 MOST_SECONDS = 400
 """How long a device may take to reach flash, in its own time."""
 INPUTS = [*(VEH_CALL + (it,) for it in GROUPS), *(PREEMPT_STATE + (it,) for it in range(1, 9))]
@@ -86,11 +88,13 @@ def verify_error(bench: Bench) -> str:
 
 
 def prepare(bench: Bench, tables: Tables) -> None:
-    """Brings the device to the beginning of a test with some tables."""
+    """Brings the device to the beginning of a test with some tables. If commands expire, flash is commanded again."""
     release(bench)
     to_flash(bench)
     load(bench, cells_between(bench.in_force, tables))
     bench.in_force = tables.copy()
+    if tables.unit(BACKUP_TIME):
+        set_or_tell(bench, [(CONTROL, FLASH)])
 
 
 def restore(bench: Bench) -> None:

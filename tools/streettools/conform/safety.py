@@ -124,7 +124,7 @@ def breaches_of(scenario: dict[str, Any], lines: list[str], tolerance: int = 0) 
     whole = content(read_value(json.dumps(scenario).encode()))
     versions = [whole.cabinets[0].tables]
     for it in whole.loads:
-        versions.append(versions[-1].with_cells(it.cells))
+        versions.append(versions[-1].with_cells(it.what))
     seen = [seen_in(it.split(" ")) for it in lines if it.startswith("F ")]
     if not seen:
         return []

@@ -55,7 +55,7 @@ def started(word: object) -> Act:
     """Returns the command with which a test starts."""
     if not isinstance(word, str):
         raise Wrong('expected the command that starts the test, as "free" or "pattern 1"')
-    (act,) = acts_of(f"{word} at 0 s")
+    (act, *_) = acts_of(f"{word} at 0 s")
     if act.kind != PATTERN:
         raise Wrong(f'{word!r} is not a command, as "free" or "pattern 1"')
     return act
