@@ -148,7 +148,7 @@ def is_here(address: str) -> bool:
 
 def main(arguments: list[str]) -> int:
     """Runs the command, and returns the exit status."""
-    given = parser().parse_args(arguments)
+    given = parser().parse_intermixed_args(arguments)
     if given.list:
         files = ([given.where] if given.where else []) + given.files
         saying.printed("".join(f"{it}\n" for it in scripts.listed(scripts.chosen(scripts.all_of(files), given.only))))

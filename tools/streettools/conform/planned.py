@@ -3,7 +3,7 @@
 from collections.abc import Iterator
 
 from ..cabinet.messages import SET
-from ..shared.cells import cells_between
+from ..shared.cells import cells_between, with_cells
 from ..shared.oids import CONTROL, TRANSACTION
 from ..shared.tables import Tables
 from . import steps
@@ -41,16 +41,18 @@ def sets_of(script: Script, tables: Tables, hands: Hands) -> Iterator[str]:
     if begun.unit(BACKUP_TIME):
         yield f"{name_of(CONTROL)} = {FLASH}"
     hands.released()
+    after = begun
     for act in (script.clock, script.start, *script.acts):
         if act is None:
             continue
         if hands.is_by_channel(act):
             yield f"by the second channel: {act.words}"
             continue
-        cells = script.load(act.name, begun) if act.kind == steps.STAGE else []
+        cells = script.load(act.name, after) if act.kind == steps.STAGE else []
+        after = with_cells(after, cells)
         for asked in hands.messages(act, cells)[0]:
             yield from lines(asked)
-    yield from loaded(begun, tables)
+    yield from loaded(after, tables)
 
 
 def planned(tests: list[Script], tables: Tables, hands: Hands, command: int) -> Iterator[str]:

@@ -3,6 +3,7 @@
 from .comparing import Compared
 from .driving import LEAD, Driven
 from .expected import START
+from .watching import Span
 
 COLOURS = {"G": "green", "Y": "yellow change", "C": "red clearance", "R": "red", "?": "contradictory bits"}
 SIGNALS = {"W": "walk", "F": "flashing don't walk", "D": "don't walk", "?": "contradictory bits"}
@@ -20,6 +21,12 @@ def seconds(ticks: int) -> str:
 def at(tick: int) -> str:
     """Returns a tick, counted from the first poll, as the time since the start of the test."""
     return seconds(tick - LEAD)
+
+
+def between(start: Span, end: Span) -> str:
+    """Returns the time from a change to a later one, both of which are known to some ticks."""
+    least, most = end.first - start.last, end.last - start.first
+    return seconds(most) if least == most else f"{least / 10:.1f} to {seconds(most)}"
 
 
 class Sides:
@@ -40,12 +47,18 @@ class Sides:
         frame = self.expected.at(START + tick)
         return (frame.pedestrians if self.is_signal else frame.vehicles)[self.phase - 1]
 
-    def device_since(self, place: int) -> int | None:
-        """Returns the tick since which the device shows what it shows in a sample; None if it began before the test."""
+    def changed(self, place: int) -> Span:
+        """Returns when the device changed to what it shows in a sample, which isn't the first one: after the sample
+        before it."""
+        samples = self.driven.samples
+        return Span(min(samples[place - 1].span.first + 1, samples[place].span.first), samples[place].span.last)
+
+    def device_since(self, place: int) -> Span | None:
+        """Returns since when the device shows what it shows in a sample; None if it began before the test."""
         letter = self.device(place)
         while place and self.device(place - 1) == letter:
             place -= 1
-        return self.driven.samples[place].span.first if place else None
+        return self.changed(place) if place else None
 
     def device_next(self, place: int, letter: str) -> int | None:
         """Returns the first tick after a sample at which the device shows a letter."""
@@ -96,7 +109,7 @@ class Sides:
         began = self.device_since(place - 1)
         if began is None or before in "RD":
             return when
-        lasted = f"its {self.names[before]} lasts {seconds(self.driven.samples[place].span.first - began)}"
+        lasted = f"its {self.names[before]} lasts {between(began, self.changed(place))}"
         starts = self.due_since(tick)
         ends = next((it for it in range(tick, tick + AHEAD) if self.due(it) != before), None)
         if starts is None or ends is None:
@@ -107,11 +120,11 @@ class Sides:
         """Returns how long a colour lasts on both sides, if it lasts too long."""
         began, starts = self.device_since(place), self.due_before(tick, shown)
         later = range(place, len(self.driven.samples))
-        ends = next((self.driven.samples[it].span.first for it in later if self.device(it) != shown), None)
+        ends = next((self.changed(it) for it in later if self.device(it) != shown), None)
         over = self.due_since(tick)
         if began is None or ends is None or starts is None or over is None or shown in "RD" or over < starts:
             return ""
-        return f" (its {self.names[shown]} lasts {seconds(ends - began)}; expected {seconds(over - starts)})"
+        return f" (its {self.names[shown]} lasts {between(began, ends)}; expected {seconds(over - starts)})"
 
 
 def sync_sentence(driven: Driven, compared: Compared) -> str:
