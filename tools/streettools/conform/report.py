@@ -10,6 +10,7 @@ from typing import Any
 from xml.sax.saxutils import escape, quoteattr
 
 from ..shared import files
+from ..shared.fault import Fault
 from ..shared.saying import visible
 from ..shared.version import VERSION
 from .device import Counts
@@ -18,6 +19,7 @@ from .sentences import at
 from .testing import DIFFER, PASS, UNKNOWN, Result
 
 OUTCOMES = (PASS, DIFFER, UNKNOWN)
+PICTURES = (".svg", ".png", ".pdf")
 
 
 @dataclass
@@ -221,9 +223,23 @@ def as_page(report: Report) -> str:
     return "\n".join([*parts, "</html>", ""])
 
 
+def write_picture(report: Report, path: str) -> None:
+    """Writes the picture of the first test that differs; of the first that was done, if none differs."""
+    from .picture import draw
+
+    done = [it for it in report.results if it.driven is not None and it.compared is not None]
+    if not done:
+        raise Fault(f"{path}: no test was done, so there is nothing to draw")
+    draw(next((it for it in done if it.outcome == DIFFER), done[0]), path)
+
+
 def written(report: Report, path: str) -> None:
-    """Writes the report by the ending of a file: .json, .xml (JUnit), .html, else text."""
+    """Writes the report by the ending of a file: .json, .xml (JUnit), .html, a picture (.svg, .png, .pdf), else
+    text."""
     suffix = pathlib.Path(path).suffix
+    if suffix in PICTURES:
+        write_picture(report, path)
+        return
     if suffix == ".json":
         text = json.dumps(as_json(report), indent=2, ensure_ascii=False) + "\n"
     elif suffix == ".xml":

@@ -14,6 +14,7 @@ from streettools.conform.watching import Sample, Span
 
 from .conftest import Device, conform
 
+ENDS = ("txt", "json", "xml", "html", "svg")
 SCRIPT = '[[test]]\nname = "of-<nine>"\nsubject = "A & B"\nsteps = ["call 9 at 8 s"]\nlasts = 10\n'
 
 
@@ -24,11 +25,11 @@ def written(tmp_path_factory):
     (folder / "own.toml").write_text(
         SCRIPT + '[[test]]\nname = "rest"\nlasts = 8\n[[test]]\nname = "short"\nsteps = ["call 4 at 7 s"]\nlasts = 25\n'
     )
-    outputs = [it for end in ("txt", "json", "xml", "html") for it in ("-o", folder / f"report.{end}")]
+    outputs = [it for end in ENDS for it in ("-o", folder / f"report.{end}")]
     with Device(mutant="yellow-short") as device:
         done = conform(device.where, folder / "own.toml", "--speed", "step", *outputs)
     assert (done.returncode, done.stdout) == (2, ""), done.stderr
-    return {end: (folder / f"report.{end}").read_text() for end in ("txt", "json", "xml", "html")}
+    return {end: (folder / f"report.{end}").read_text() for end in ENDS}
 
 
 def test_the_text_says_what_is_wrong(written):
@@ -62,6 +63,10 @@ def test_the_page_has_a_picture_and_loads_nothing(written):
     assert "of-&lt;nine&gt;" in page and "of-<nine>" not in page
     links = re.findall(r'(?:href|src)="([^"]*)"', page)
     assert all(it.startswith("#") for it in links if not it.startswith("http://www.w3.org")), links
+
+
+def test_the_picture_is_that_of_the_test_that_differs(written):
+    assert "short: differ" in written["svg"] and written["svg"].count("-difference") == 2
 
 
 # the words of differences
