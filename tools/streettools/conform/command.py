@@ -122,8 +122,8 @@ def parser() -> argparse.ArgumentParser:
     add_load(words)
     words.add_argument(
         "-o", "--output", action="append", default=[], metavar="FILE",
-        help="a file for the report: .html, .json, .xml (JUnit) or text; .svg, .png or .pdf is the picture of the first "
-        "test that differs; may be repeated (default: text on standard output)",
+        help="a file for the report: .html, .json, .xml (JUnit) or text; .svg, .png or .pdf is the picture of the "
+        "first test that differs; may be repeated (default: text on standard output)",
     )  # fmt: skip
     add_json(words)
     words.add_argument("--strict", action="store_true", help='status 2 also if a test has the result "can\'t tell"')

@@ -138,7 +138,8 @@ def as_json(report: Report) -> dict[str, Any]:
 
 
 def case_xml(where: str, it: Result) -> Iterator[str]:
-    """Yields a test as a case of JUnit: a difference is a failure, what can't be told is skipped."""
+    """Yields a test as a case of JUnit: a difference is a failure; a test that the device can't do is
+    skipped."""
     name, group = quoteattr(it.script.name), quoteattr(f"{where}.{it.script.subject}".replace(":", "_"))
     head = f"    <testcase name={name} classname={group} time=\"{it.seconds:.3f}\""
     lines = why(it)

@@ -7,7 +7,7 @@ NAMED = {
     "no-dual-entry": ("dual-entry", "phase 8 still shows red at 21.6 s; expected green since 21.6 s"),
     "barrier-crossed": ("barrier", "phases 1 and 8 are on together"),
     "offset-late": ("offset", "coordSyncStatus is 1 s at 8.9 s; expected 0 s after local zero"),
-    "download-in-parts": ("staged-download-in-force", "phase 2 still shows red at 37.1 s; expected green since 37.1 s; it turns to that at 37.6 s"),
+    "download-in-parts": ("staged-download-in-force", "phase 2 still shows red at 37.1 s; expected green since 37.1 s"),
     "preempt-cuts-yellow": ("preempt-entry-in-clearance", "its yellow change lasts 1.6 s; expected 4.0 s"),
     "counter-skips-anywhere": ("correction-shortway", "coordSyncStatus is 26 s at 29.3 s; expected 25 s"),
     "no-red-revert": ("red-revert", "phase 2 turns to green at 21.7 s; expected at 26.6 s"),

@@ -63,9 +63,10 @@ class Relay:
         reply = snmp.message_of(octets)
         asked, client, number = self.clients[reply.number]
         for seconds, changed in self.change(number, asked, reply):
-            threading.Thread(target=self.later, args=(seconds, changed, client)).start() if seconds else self.outside.sendto(
-                changed, client
-            )
+            if seconds:
+                threading.Thread(target=self.later, args=(seconds, changed, client)).start()
+            else:
+                self.outside.sendto(changed, client)
 
     def later(self, seconds, octets, client):
         """Sends octets after some seconds."""

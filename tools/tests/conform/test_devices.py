@@ -1,5 +1,5 @@
-"""Devices that don't answer, or answer late, wrongly or twice; that restart, have other phases or refuse a Set: one line
-each, and the other tests are done."""
+"""Devices that don't answer, or answer late, wrongly or twice; that restart, have other phases or refuse a Set: one
+line each, and the other tests are done."""
 
 import json
 

@@ -33,7 +33,8 @@ class Tools(threading.Thread):
                  ["snmpget", *to, f"{oids.dotted(oids.CONTROL)}"]]  # fmt: skip
         while not self.is_over.wait(0.1):
             for words in calls:
-                self.statuses.append(subprocess.run(words, capture_output=True, env=os.environ | {"MIBS": ""}).returncode)
+                done = subprocess.run(words, capture_output=True, env=os.environ | {"MIBS": ""})
+                self.statuses.append(done.returncode)
 
     def __enter__(self):
         self.start()
@@ -126,7 +127,8 @@ def test_a_maker_s_own_channel_is_a_class_in_a_file(tmp_path):
     path = tmp_path / "box.py"
     path.write_text(
         "class Box:\n    def vehicle(self, phase, on): pass\n    def button(self, phase): pass\n"
-        "    def preempt(self, number, on): pass\n    def close(self): pass\n\n\nclass Half:\n    def close(self): pass\n"
+        "    def preempt(self, number, on): pass\n    def close(self): pass\n\n\n"
+        "class Half:\n    def close(self): pass\n"
     )
     opened(f"{path}:Box", str).close()
     with pytest.raises(Fault, match="Half lacks one of vehicle, button, preempt, close"):
@@ -135,7 +137,9 @@ def test_a_maker_s_own_channel_is_a_class_in_a_file(tmp_path):
         opened(f"{path}:None", str)
 
 
-@pytest.mark.parametrize("word", ["udp", "udp:1", "udp:127.0.0.1:0", "serial:", "box", "box.py", "/dev/null:9", "box.py:Box"])
+@pytest.mark.parametrize(
+    "word", ["udp", "udp:1", "udp:127.0.0.1:0", "serial:", "box", "box.py", "/dev/null:9", "box.py:Box"]
+)
 def test_what_is_not_a_channel_is_refused(word):
     with pytest.raises(Fault):
         opened(word, lambda host: host)

@@ -35,8 +35,8 @@ def written(tmp_path_factory):
 def test_the_text_says_what_is_wrong(written):
     lines = [it.strip() for it in written["txt"].splitlines()]
     assert lines[-1] == "3 tests: 1 pass, 1 differ, 1 can't tell"
-    assert "phase 2 turns to red clearance at 19.9 s; expected at 20.1 s (its yellow change lasts 3.8 s; expected 4.0 s)" \
-        in lines  # fmt: skip
+    words = "phase 2 turns to red clearance at 19.9 s; expected at 20.1 s (its yellow change lasts 3.8 s; expected 4.0 s)"
+    assert words in lines
     assert "unsafe: phase 2 shows yellow change for 3.8 s; 4 s by its tables" in lines
 
 
@@ -87,12 +87,12 @@ def sides(device, due, pedestrians=None):
 @pytest.mark.parametrize(
     "device, due, words",
     [
-        ("RGGYYYCCRRRR", "RGGYYYYYCCRR", "phase 1 turns to red clearance at 0.1 s; expected at 0.3 s (its yellow change "
-         "lasts 0.3 s; expected 0.5 s)"),
-        ("RGGYYYYYCCRR", "RGGYYYCCRRRR", "phase 1 still shows yellow change at 0.1 s; expected red clearance since 0.1 s; "
-         "it turns to that at 0.3 s (its yellow change lasts 0.5 s; expected 0.3 s)"),
-        ("RRRRRRRRRRRR", "RRRGGGGGGGGG", "phase 1 still shows red at -0.2 s; expected green since -0.2 s; it doesn't turn "
-         "to that in this test"),
+        ("RGGYYYCCRRRR", "RGGYYYYYCCRR", "phase 1 turns to red clearance at 0.1 s; expected at 0.3 s "
+         "(its yellow change lasts 0.3 s; expected 0.5 s)"),
+        ("RGGYYYYYCCRR", "RGGYYYCCRRRR", "phase 1 still shows yellow change at 0.1 s; expected red clearance since "
+         "0.1 s; it turns to that at 0.3 s (its yellow change lasts 0.5 s; expected 0.3 s)"),
+        ("RRRRRRRRRRRR", "RRRGGGGGGGGG", "phase 1 still shows red at -0.2 s; expected green since -0.2 s; "
+         "it doesn't turn to that in this test"),
         ("RRRGGGGGGGGG", "RRRRRRRRRRRR", "phase 1 turns to green at -0.2 s; expected red for the next 40 s"),
         ("RGGGGG", "RGGGGG", None),
     ],
@@ -103,4 +103,5 @@ def test_a_difference_in_words(device, due, words):
 
 def test_a_walk_that_is_cut_in_words():
     found = sides("GGGGGGGGG", "GGGGGGGGG", ("DWWWFFFDD", "DWWWWFFFD"))
-    assert found == ["phase 1 turns to flashing don't walk at -0.1 s; expected at 0.0 s (its walk lasts 0.3 s; expected 0.4 s)"]
+    words = "phase 1 turns to flashing don't walk at -0.1 s; expected at 0.0 s (its walk lasts 0.3 s; expected 0.4 s)"
+    assert found == [words]

@@ -12,6 +12,7 @@ from streettools.shared.tables import Tables
 
 from .conftest import conform
 
+LOADS = '[test.loads]\na = ["phase 4 min_green 7"]\n'
 ONE = '[[test]]\nname = "one"\n'
 
 
@@ -45,8 +46,8 @@ def test_a_priority_request_has_the_octets_of_its_object():
 
 
 @pytest.mark.parametrize(
-    "line", ["", "call", "call 4", "call 17 at 3 s", "call 0 at 3 s", "call 4 at 3", "call 4 at 10000 s", "call 4 at -1 s",
-             "preempt 9 at 1 s", "pattern 49 at 1 s", "clock 25:00:00 at 0 s", "clock 7:00:00.5 at 0 s", "wait 3 s",
+    "line", ["", "call", "call 4", "call 17 at 3 s", "call 0 at 3 s", "call 4 at 3", "call 4 at 10000 s",
+             "call 4 at -1 s", "preempt 9 at 1 s", "pattern 49 at 1 s", "clock 25:00:00 at 0 s", "clock 7:00:00.5 at 0 s", "wait 3 s",
              "call 4 for 0 s at 1 s", "priority 1 for phase 2 class 1 level 1 from 9 s to 5 s at 1 s", "load at 3 s"],
 )  # fmt: skip
 def test_what_is_not_a_step_is_refused(line):
@@ -85,8 +86,9 @@ def test_a_cell_in_words_is_the_cell_of_a_scenario(line, due):
 
 
 @pytest.mark.parametrize(
-    "line", ["", "phase", "phase 17 min_green 5", "phase 4 min_green", "phase 4 min_green much", "phase 4 min_green 256",
-             "phase 4 colour red", "split 1 time 3", "sequence 1 ring 3 1,2", "coordination nothing 3", "preempt 1 dwell a",
+    "line", ["", "phase", "phase 17 min_green 5", "phase 4 min_green", "phase 4 min_green much",
+             "phase 4 min_green 256", "phase 4 colour red", "split 1 time 3", "sequence 1 ring 3 1,2",
+             "coordination nothing 3", "preempt 1 dwell a",
              "phase 4 recall often", "unit 1 3", "phase 4 min_green nan"],
 )  # fmt: skip
 def test_what_is_not_a_cell_is_refused(line):
@@ -107,7 +109,7 @@ def test_what_is_not_a_cell_is_refused(line):
         (ONE + 'start = "pattern 1"', "test[0].clock is missing: a test with a pattern says what time it is"),
         (ONE + 'start = "call 4"', "is not a command"),
         (ONE + "lasts = 0", "test[0].lasts is 0, and has to be 1 to 7200"),
-        (ONE + 'steps = ["stage a at 1 s", "verify at 2 s", "discard at 3 s"]\n[test.loads]\na = ["phase 4 min_green 7"]',
+        (ONE + 'steps = ["stage a at 1 s", "verify at 2 s", "discard at 3 s"]\n' + LOADS,
          "NORMAL puts verified tables in force"),
         (ONE + ONE, "two tests have the name one"),
     ],
@@ -147,7 +149,8 @@ def test_what_is_not_a_scenario_is_refused(tmp_path, text):
 
 def test_what_a_device_lacks_is_said(tmp_path):
     path = tmp_path / "own.toml"
-    path.write_text(ONE + 'clock = "07:00:00"\nsteps = ["call 9 at 1 s", "push 1 at 1 s", "preempt 3 at 1 s", "pattern 7 at 2 s"]')
+    steps_of = '["call 9 at 1 s", "push 1 at 1 s", "preempt 3 at 1 s", "pattern 7 at 2 s"]'
+    path.write_text(f'{ONE}clock = "07:00:00"\nsteps = {steps_of}')
     (test,) = scripts.all_of([str(path)])
     assert list(dict.fromkeys(needs.lacking(test, Tables(), 16))) == [
         "phase 9 isn't enabled", "phase 1 has no walk", "preempt 3 has no dwell phases", "pattern 7 isn't defined",
@@ -161,4 +164,5 @@ def test_the_list_has_a_line_for_each_test_of_the_library():
 
 def test_a_test_that_is_not_there_is_one_line():
     done = conform("127.0.0.1:1", "--only", "nothing")
-    assert (done.returncode, done.stderr) == (2, "conform: nothing is neither a test nor a subject: --list prints both\n")
+    words = "conform: nothing is neither a test nor a subject: --list prints both\n"
+    assert (done.returncode, done.stderr) == (2, words)
