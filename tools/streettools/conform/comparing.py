@@ -4,15 +4,15 @@ A sample agrees if the proved cabinet shows the same at a tick at which the devi
 at which tick a call arrived, the test passes if the device agrees for one of the possible ticks.
 """
 
-from collections.abc import Callable
-from dataclasses import dataclass, replace
+from collections.abc import Callable, Iterator
+from dataclasses import dataclass
 
 from .driving import Driven
 from .expected import START, Expected
 from .objects import Display
 from .watching import Sample
 
-MOST_RUNS = 60
+MOST_RUNS = 150
 """How many runs of the proved cabinet one comparison may take."""
 
 Run = Callable[[tuple[int, ...]], Expected]
@@ -79,31 +79,43 @@ def parting(driven: Driven, expected: Expected, has_clearance: bool) -> Parting 
     return None
 
 
+def nearby(driven: Driven, best: Compared) -> Iterator[tuple[int, ...]]:
+    """Yields other ticks at which the acts before the first difference may have arrived: one act is moved, first by
+    one tick, then by more; the latest act first."""
+    assert best.parting is not None
+    spans = [it.span for it in driven.acts]
+    end = best.parting.last
+    movable = [at for at in reversed(range(len(spans))) if spans[at].first <= end and spans[at].first < spans[at].last]
+    widest = max((spans[at].last - spans[at].first for at in movable), default=0)
+    for distance in range(1, widest + 1):
+        for at in movable:
+            for tick in (best.ticks[at] - distance, best.ticks[at] + distance):
+                if spans[at].first <= tick <= spans[at].last:
+                    yield best.ticks[:at] + (tick,) + best.ticks[at + 1 :]
+
+
 def compared(driven: Driven, run: Run, has_clearance: bool) -> Compared:
     """Compares a test with runs of the proved cabinet. `run` returns what it does if the acts arrive at some ticks."""
-    spans = [it.span for it in driven.acts]
-    ticks = tuple((it.first + it.last) // 2 for it in spans)
-    due = run(ticks)
-    best = Compared(due, ticks, parting(driven, due, has_clearance))
-    runs = 1
-    while best.parting is not None and runs < MOST_RUNS:
-        better = None
-        for at in reversed(range(len(spans))):
-            if spans[at].first > best.parting.last:
-                continue
-            for tick in range(spans[at].first, spans[at].last + 1):
-                if tick == best.ticks[at] or runs >= MOST_RUNS:
-                    continue
-                tried = best.ticks[:at] + (tick,) + best.ticks[at + 1 :]
-                due, runs = run(tried), runs + 1
-                found = parting(driven, due, has_clearance)
-                if found is None or found.place > best.parting.place:
-                    better = Compared(due, tried, found)
-                    break
-            if better:
-                break
-        if better is None:
-            break
+    left = MOST_RUNS
+
+    def tried(ticks: tuple[int, ...]) -> Compared:
+        nonlocal left
+        left -= 1
+        due = run(ticks)
+        return Compared(due, ticks, parting(driven, due, has_clearance))
+
+    def later(best: Compared) -> Compared | None:
+        assert best.parting is not None
+        for ticks in nearby(driven, best):
+            if left <= 0:
+                return None
+            found = tried(ticks)
+            if found.parting is None or found.parting.place > best.parting.place:
+                return found
+        return None
+
+    best = tried(tuple((it.span.first + it.span.last) // 2 for it in driven.acts))
+    while best.parting is not None and (better := later(best)) is not None:
         best = better
     return best
 
@@ -111,8 +123,3 @@ def compared(driven: Driven, run: Run, has_clearance: bool) -> Compared:
 def asked_ticks(driven: Driven) -> list[int]:
     """Returns the ticks at which the place in the cycle was read."""
     return sorted({it.span.first for it in driven.samples if it.display.sync is not None})
-
-
-def until(driven: Driven, tick: int) -> Driven:
-    """Returns a test without the samples after a tick."""
-    return replace(driven, samples=[it for it in driven.samples if it.span.first <= tick])

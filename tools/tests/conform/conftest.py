@@ -22,12 +22,8 @@ class Device(Running):
     """A street of one cabinet as the device. Its program is the independent model, or a mutant of it."""
 
     def __init__(self, *words, mutant=None, program=MODEL):
-        before = os.environ.get("ARTERIAL_MUTANT")
-        os.environ["ARTERIAL_MUTANT"] = mutant or ""
-        try:
-            super().__init__((*(words or STEP), "--program", MUTANT if mutant else program))
-        finally:
-            os.environ["ARTERIAL_MUTANT"] = before or ""
+        words = (*(words or STEP), "--program", MUTANT if mutant else program)
+        super().__init__(words, env=os.environ | {"ARTERIAL_MUTANT": mutant or ""})
         self.where = f"127.0.0.1:{self.port}"
 
     def __enter__(self):

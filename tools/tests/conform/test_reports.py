@@ -35,8 +35,8 @@ def written(tmp_path_factory):
 def test_the_text_says_what_is_wrong(written):
     lines = [it.strip() for it in written["txt"].splitlines()]
     assert lines[-1] == "3 tests: 1 pass, 1 differ, 1 can't tell"
-    words = "phase 2 turns to red clearance at 19.9 s; expected at 20.1 s (its yellow change lasts 3.8 s; expected 4.0 s)"
-    assert words in lines
+    lasts = "its yellow change lasts 3.8 s; expected 4.0 s"
+    assert f"phase 2 turns to red clearance at 19.9 s; expected at 20.1 s ({lasts})" in lines
     assert "unsafe: phase 2 shows yellow change for 3.8 s; 4 s by its tables" in lines
 
 

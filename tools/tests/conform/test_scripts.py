@@ -47,7 +47,8 @@ def test_a_priority_request_has_the_octets_of_its_object():
 
 @pytest.mark.parametrize(
     "line", ["", "call", "call 4", "call 17 at 3 s", "call 0 at 3 s", "call 4 at 3", "call 4 at 10000 s",
-             "call 4 at -1 s", "preempt 9 at 1 s", "pattern 49 at 1 s", "clock 25:00:00 at 0 s", "clock 7:00:00.5 at 0 s", "wait 3 s",
+             "call 4 at -1 s", "preempt 9 at 1 s", "pattern 49 at 1 s", "clock 25:00:00 at 0 s",
+             "clock 7:00:00.5 at 0 s", "wait 3 s",
              "call 4 for 0 s at 1 s", "priority 1 for phase 2 class 1 level 1 from 9 s to 5 s at 1 s", "load at 3 s"],
 )  # fmt: skip
 def test_what_is_not_a_step_is_refused(line):
