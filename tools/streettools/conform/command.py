@@ -225,7 +225,7 @@ def run_all(bench: "Bench", tests: list[scripts.Script], program: str, report: "
         if shown is not None:
             shown.close()
         try:
-            restore(bench)
+            restore(bench) if bench.was_used else None
         except (CantTell, Fault) as why:
             report.notes.append(f"the device doesn't have its own tables and command again: {why}")
 

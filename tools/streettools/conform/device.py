@@ -30,10 +30,12 @@ class Unanswered(Fault):
 
 
 class Asked(NamedTuple):
-    """A message to the device: its kind and bindings."""
+    """A message to the device: its kind and bindings; whether it may be sent again if it isn't answered. What has a
+    different effect later, as a clock that is set, may not."""
 
     kind: int
     bindings: Bindings
+    again: bool = True
 
 
 class Answer(NamedTuple):
@@ -122,6 +124,10 @@ class Device:
                 self.send(octets[number])
             self.counts.asked += len(waiting)
             self.collect(waiting, found)
+            for number in [it for it, at in waiting.items() if not several[at].again]:
+                self.keep(number, False)
+                waiting.pop(number)
+                self.counts.unanswered += 1
             self.counts.unanswered += len(waiting)
             if not waiting:
                 break

@@ -21,7 +21,6 @@ LEAD = 5
 """The polls before the first act."""
 AT_ONCE = 16
 """The messages that wait for their answers at once, if each message advances the device's time by a known step."""
-LOADING = (steps.STAGE, steps.VERIFY, steps.FORCE, steps.DISCARD)
 SETTLED = 3
 """The polls that may follow the last act, in ticks of an act without a sample after it."""
 
@@ -53,6 +52,14 @@ class Driven:
     """The polls without an answer."""
 
 
+class Sent(NamedTuple):
+    """A message that is to be sent: the act whose effect it has, if it has one; whether it is a poll."""
+
+    asked: Asked
+    act: Act | None
+    is_poll: bool
+
+
 class Slot(NamedTuple):
     """A message that was sent: the act whose effect it has, if it has one; of a poll its sample."""
 
@@ -76,6 +83,8 @@ class Bench:
     in_force: Tables
     command: int = 0
     has_transactions: bool = True
+    was_used: bool = False
+    """Whether any test has set something."""
     has_begun: bool = False
     """Whether the test that is under way has set something."""
     read: Callable[[], Tables] = Tables
@@ -99,8 +108,6 @@ class Drive:
         self.queue = [act for act in (script.clock, script.start) if act] + list(script.acts)
         self.end = LEAD + script.ticks
         self.polls = 0
-        self.is_of_load = False
-        """Whether the pending messages are those of a load: each waits for the answer to the one before."""
         self.tables = bench.in_force.copy()
         self.quiet_until = 0
         self.poll_at = 0.0
@@ -162,45 +169,45 @@ class Drive:
             self.bench.hands.do(act)
             self.slots.append(Slot(act, None, None))
             return True
-        self.is_of_load = act.kind in LOADING
         cells: list[Any] = self.script.load(act.name, self.tables) if act.kind == steps.STAGE else []
         messages, place = self.bench.hands.messages(act, cells)
         self.pending = [(it, act if at == place else None) for at, it in enumerate(messages)]
         return False
 
+    def is_immediate(self, at: int) -> bool:
+        """Tells whether the next act is done without a message whose answer is awaited, and it is its time."""
+        if self.pending or not self.queue or self.queue[0].at + LEAD > at:
+            return False
+        return self.queue[0].kind == steps.DAMAGED or self.bench.hands.is_by_channel(self.queue[0])
+
     # with steps: several messages at once, whose times are known
 
     def batch(self, at: int) -> None:
-        """Sends messages from a tick on, all at once."""
-        sent: list[tuple[Asked, Act | None, bool]] = []
+        """Sends messages from a tick on, all at once: polls, and at most one Set with a poll after it. A Set that is
+        sent again can't come after a later one."""
+        sent: list[Sent] = []
         while len(sent) < AT_ONCE and at <= self.end:
-            if self.queue and self.queue[0].kind == steps.DAMAGED and sent:
+            if sent and self.is_immediate(at) or self.due(at):
                 break
-            if self.due(at):
+            if self.pending:
+                sent += [Sent(*self.pending.pop(0), False), self.next_poll()]
                 break
-            if not self.pending:
-                sent.append((self.next_poll(), None, True))
-            elif self.is_of_load and sent:
-                break
-            else:
-                sent.append((*self.pending.pop(0), False))
-                if self.is_of_load:
-                    break
+            sent.append(self.next_poll())
             at += self.bench.step
-        answers = self.bench.device.exchange([it for it, _, _ in sent])
-        for (asked, act, is_poll), answer in zip(sent, answers):
-            self.take(asked, act, is_poll, answer)
+        self.together(sent)
+
+    def together(self, sent: list[Sent]) -> None:
+        """Sends messages at once, and takes the answers."""
+        for it, answer in zip(sent, self.bench.device.exchange([it.asked for it in sent])):
+            self.take(it.asked, it.act, it.is_poll, answer)
 
     # with a pace: one message at a time, when it is its time
 
     def turn(self, at: int) -> None:
-        """Sends what is to be sent now, or waits until something is. A poll follows each act at once: it dates the
-        act."""
+        """Sends what is to be sent now, or waits until something is. A Set is between two polls, which date it."""
         did = self.due(at)
         while self.pending:
-            asked, act = self.pending.pop(0)
-            self.take(asked, act, False, self.bench.device.exchange([asked])[0])
-            did = True
+            self.together([self.next_poll(), Sent(*self.pending.pop(0), False), self.next_poll()])
         now = time.monotonic()
         if at >= self.quiet_until and (did or now >= self.poll_at):
             self.poll_at = max(self.poll_at, now) + 1 / (POLLS * self.bench.speed)
@@ -210,15 +217,14 @@ class Drive:
         wait = max(0.0, until / (POLLS * self.bench.speed))
         time.sleep(min(wait, max(0.0, self.poll_at - now)) if at >= self.quiet_until else min(wait, 0.05))
 
-    def next_poll(self) -> Asked:
+    def next_poll(self) -> Sent:
         """Returns the next poll."""
         self.polls += 1
-        return self.bench.watch.poll(self.polls % SYNC_EVERY == 0)
+        return Sent(self.bench.watch.poll(self.polls % SYNC_EVERY == 0), None, True)
 
     def polled(self) -> int:
         """Polls once, and returns the tick of the next message."""
-        asked = self.next_poll()
-        self.take(asked, None, True, self.bench.device.exchange([asked])[0])
+        self.together([self.next_poll()])
         return self.next_tick()
 
     # what comes back

@@ -61,9 +61,9 @@ class Hands:
             case steps.PATTERN:
                 return [Asked(SET, [(CONTROL, act.number)])], 0
             case steps.CLOCK:
-                return [Asked(SET, [(GLOBAL_TIME, int(time.time()) // DAY * DAY + act.number)])], 0
+                return [Asked(SET, [(GLOBAL_TIME, int(time.time()) // DAY * DAY + act.number)], again=False)], 0
             case steps.PRIORITY:
-                return [Asked(SET, [(REQUEST, act.request)])], 0
+                return [Asked(SET, [(REQUEST, act.request)], again=False)], 0
             case steps.STAGE:
                 sent = [Asked(SET, [(TRANSACTION, TRANSACT)]), *cells_sent(cells)]
             case steps.VERIFY:

@@ -59,7 +59,7 @@ def judged(bench: Bench, script: Script, program: str) -> Result:
     tables = tables_before(script, bench.original)
     if lacking := list(dict.fromkeys(needs.lacking(script, tables, bench.watch.phases()))):
         return Result(script, UNKNOWN, [f"the device can't do this test: {it}" for it in lacking])
-    bench.has_begun = True
+    bench.has_begun = bench.was_used = True
     prepare(bench, tables)
     bench.watch.use({it.number for it in script.acts if it.kind == steps.PREEMPT}, set(tables.enabled()))
     driven = Drive(bench, script).run()

@@ -116,7 +116,8 @@ class Watch:
 
     def look(self) -> tuple[Answer, Display]:
         """Returns what the device shows now."""
-        answer = self.device.ask(*self.poll(False))
+        poll = self.poll(False)
+        answer = self.device.ask(poll.kind, poll.bindings)
         shown = self.display(answer)
         if shown is None:
             raise Unanswered(f"{self.device.where} answers a poll with an error")

@@ -44,7 +44,7 @@ def conform(*words, **more):
 def reported(where, *words, folder, speed="step"):
     """Returns the report of a call as JSON, and its exit status."""
     path = folder / "report.json"
-    done = conform(where, "--speed", speed, "-o", path, *words)
+    done = conform(where, "--speed", speed, "--patience", 5, "-o", path, *words)
     assert path.is_file(), done.stderr
     return json.loads(path.read_text()), done.returncode
 
