@@ -19,7 +19,7 @@ from .watching import POLLS, SYNC_EVERY, Sample, Span, Timer, Watch
 
 LEAD = 5
 """The polls before the first act."""
-AT_ONCE = 16
+AT_ONCE = 40
 """The messages that wait for their answers at once, if each message advances the device's time by a known step."""
 SETTLED = 3
 """The polls that may follow the last act, in ticks of an act without a sample after it."""
