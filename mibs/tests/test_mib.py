@@ -144,4 +144,4 @@ def test_net_snmp_has_a_name_for_each_object_of_the_front():
     own = [".".join(map(str, arcs)) for arcs in OBJECTS if arcs[:7] != (1, 3, 6, 1, 2, 1, 1)]
     words = ["-M", f"{MIBS}:{MIBS / 'base'}", "-m", "ARTERIAL-FRONT-MIB", "-Os", *own]
     texts = asked("snmptranslate", *words, errors=subprocess.DEVNULL).split()
-    assert len(set(texts)) == len(own) and [it for it in texts if not re.fullmatch(r"[a-z][A-Za-z0-9]+\.\d+", it)] == []
+    assert len(set(texts)) == len(own) and [it for it in texts if not re.fullmatch(r"[a-z]\w+(\.\d+)+", it)] == []

@@ -53,6 +53,21 @@ def write_sheet(path: str | None, sheet: dict[str, Any]) -> None:
         write(path, toml_text.text(sheet))
 
 
+def to_new(words: argparse.Namespace) -> int:
+    """Writes a sheet to start from, and its volumes."""
+    from . import starting, volumes_text  # here, since numpy takes a while
+
+    asked = starting.wish(
+        words.intersections, words.title, words.travel, words.cycle, words.speed, words.start, words.minutes
+    )
+    text, street = starting.sheet(asked)
+    tell(street.notes)
+    if words.volumes:
+        write(words.volumes, volumes_text.text(starting.volumes(asked)))
+    write(words.output, text)
+    return Status.DONE
+
+
 def to_day(words: argparse.Namespace) -> int:
     """Writes the scenario of a sheet on a day."""
     street = taking.sheet(words.file, words.names)

@@ -7,6 +7,7 @@ from ..shared.commandline import Parser, add_json, add_output, add_program, numb
 from . import actions
 
 EPILOG = """examples:
+  ./arterial plan new "Main St & 1st Ave" "Main St & Oak Ave=t" -o street.toml    # a sheet to start from
   ./arterial plan scenario street.toml > street.json       # a sheet as a scenario
   ./arterial plan day street.toml 2026-12-24 -o day.json   # the scenario of a day, by the sheet's day plans
   ./arterial plan sheet street.json > street.toml          # and back, without loss
@@ -34,6 +35,18 @@ These are the downloads of this bench's cabinets. A real controller doesn't have
 """
 DAY_EPILOG = """example:
   ./arterial plan day street.toml 2026-12-24 -o day.json
+"""
+NEW_EPILOG = """kinds of intersections (default: eight):
+  eight     1 2 | 3 4  and  5 6 | 7 8    left turns of both streets have phases
+  six       1 2 | 4    and  5 6 | 8      left turns of the main street have phases
+  two       2 | 4      and  6 | 8        no left turn has a phase
+  t         1 2 | 4    and  6 | -        the side street ends here
+  leadlag   1 2 | 3 4  and  6 5 | 7 8    phase 1 leads, phase 5 lags
+  split     1 2 | 3 4  and  5 6 | -      the approaches of the side street follow each other
+
+example:
+  ./arterial plan new "River Rd & Oak Ave" "River Rd & Ferry Ln=t" "River Rd & Depot St=six" --travel 18,22 \\
+      --cycle 100,90 --start 08:50 --minutes 60 --volumes street.volumes.toml -o street.toml
 """
 UTDF_EPILOG = """examples:
   ./arterial plan from utdf street.csv --volumes street.volumes.toml -o street.toml
@@ -69,6 +82,48 @@ def add_scenario(part: argparse.ArgumentParser) -> None:
     add_output(part, "where to write; the names go to a file next to it (default: standard output)", metavar="OUTPUT")
     part.add_argument("--field", action="store_true", help="write a field file, with the detectors")
     part.add_argument("--names-out", metavar="NAMES", help="where to write the names (default: next to the output)")
+
+
+def numbers(least: int, most: int):
+    """Returns a reader of whole numbers that are separated by commas."""
+    one = number(least, most)
+
+    def read(text: str) -> list[int]:
+        return [one(word.strip()) for word in text.split(",")]
+
+    setattr(read, "takes", f"whole numbers {least:,} to {most:,}, separated by commas")
+    return read
+
+
+def add_start(parts) -> None:
+    """Adds the part that writes a sheet to start from."""
+    part = add(
+        parts, "new", actions.to_new, "write a sheet to start from: a street of usual intersections", NEW_EPILOG
+    )
+    part.add_argument(
+        "intersections", metavar="NAME[=KIND]", nargs="+", help="each intersection, from west to east, and its kind"
+    )
+    part.add_argument("--title", help="the name of the street (default: the first name up to ' & ')")
+    part.add_argument(
+        "--travel", type=numbers(1, 255), default="20", metavar="SECONDS",
+        help="travel times from each intersection to the next, as 18,22; one number applies to all (default: 20)",
+    )  # fmt: skip
+    part.add_argument(
+        "--cycle", type=numbers(30, 255), default="90", metavar="SECONDS",
+        help="cycles of the patterns 1, 2, .., as 100,90 (default: 90). The run is divided among them",
+    )  # fmt: skip
+    part.add_argument(
+        "--speed", type=number(15, 65), default=40, metavar="MPH", help="speed on the main street (default: 40)"
+    )
+    part.add_argument(
+        "--start", type=daytime, default="07:00", metavar="TIME",
+        help="the time of day at which the run starts (default: 07:00)",
+    )  # fmt: skip
+    part.add_argument(
+        "--minutes", type=number(1, 1440), default=60, metavar="N", help="the length of the run (default: 60)"
+    )
+    part.add_argument("--volumes", metavar="FILE", help="where to write volumes, for `arterial cosim queues`")
+    add_output(part, OUTPUT, metavar="OUTPUT")
 
 
 def add_conversions(parts) -> None:
@@ -241,6 +296,7 @@ def parser() -> argparse.ArgumentParser:
     about = "Converts timing sheets to scenarios and back, and reports what is wrong with them in words."
     whole = Parser("plan", description=about, epilog=EPILOG)
     parts = whole.add_subparsers(dest="part", metavar="COMMAND", required=True)
+    add_start(parts)
     add_conversions(parts)
     add_products(parts)
     add_checks(parts)

@@ -111,6 +111,50 @@ GLOBALS: dict[Arcs, Named] = {
     VERIFY_ERROR[:-1]: of_global("dbVerifyError", TEXT, "Which rule the collected tables break.", NUMBER),
     GLOBAL_TIME[:-1]: of_global("globalTime", "Counter32", "Seconds since 1970. A Set sets the cabinet's clock."),
 }  # fmt: skip
+TIME, SCHEDULE, EVENT, ACTION = GLOBAL + (3,), GLOBAL + (3, 3, 2, 1), GLOBAL + (3, 3, 5, 1), ASC + (5, 3, 1)
+ONE_PLAN = "1 if the scenario's master has a schedule for the cabinet's section, otherwise 0."
+TIMES: dict[Arcs, Named] = {
+    TIME + (2,): of_global("globalDaylightSaving", "INTEGER { other(1), disableDST(2) }", "Always disableDST."),
+    TIME + (3, 1): of_global("maxTimeBaseScheduleEntries", "Integer32 (1)", "The number of schedule entries."),
+    SCHEDULE + (1,): of_global("timeBaseScheduleNumber", "Integer32 (1)", "The number of the row. It can be read."),
+    SCHEDULE + (2,): of_global("timeBaseScheduleMonth", "Integer32 (0..65535)", "8190: every month."),
+    SCHEDULE + (3,): of_global("timeBaseScheduleDay", BYTE, "254: every day of the week."),
+    SCHEDULE + (4,): of_global(
+        "timeBaseScheduleDate", "Unsigned32", "4294967294: every date.", "whether it is an Unsigned32 or an INTEGER"
+    ),
+    SCHEDULE + (5,): of_global("timeBaseScheduleDayPlan", "Integer32 (0..1)", ONE_PLAN),
+    TIME + (3, 3): of_global("maxDayPlans", "Integer32 (1)", "The number of day plans."),
+    TIME + (3, 4): of_global("maxDayPlanEvents", "Integer32 (48)", "The number of events of the day plan."),
+    EVENT + (1,): of_global("dayPlanNumber", "Integer32 (1)", "The number of the day plan. It can be read."),
+    EVENT + (2,): of_global("dayPlanEventNumber", "Integer32 (1..48)", "The number of the event. It can be read."),
+    EVENT + (3,): of_global(
+        "dayPlanHour", "Integer32 (0..23)",
+        "The hour of an entry of the master's schedule for the cabinet's section; 0 if the event isn't used.",
+    ),
+    EVENT + (4,): of_global("dayPlanMinute", "Integer32 (0..59)", "Its minute. Seconds are left out."),
+    EVENT + (5,): of_global(
+        "dayPlanActionNumberOID", OID,
+        "The action that commands its pattern: an instance of timebaseAscActionNumber; 0.0 if the event isn't used, or "
+        "if no action commands this pattern.",
+    ),
+    TIME + (3, 6): of_global("dayPlanStatus", "Integer32 (0..1)", ONE_PLAN),
+    TIME + (3, 7): of_global("timeBaseScheduleTableStatus", "Integer32 (0..1)", ONE_PLAN, NUMBER),
+}  # fmt: skip
+ACTIONS: dict[Arcs, Named] = {
+    ASC + (5, 1): asc("timebaseAscPatternSync", "Integer32 (0..65535)", "0: cycles are counted from midnight."),
+    ASC + (5, 2): most("maxTimebaseAscActions", "actions", 51),
+    ACTION + (1,): index("timebaseAscActionNumber", 51),
+    ACTION + (2,): asc(
+        "timebaseAscPattern", BYTE,
+        "The pattern that the action commands: 1 to 48, then 0, 254 (free) and 255 (flash).",
+    ),
+    ACTION + (3,): asc("timebaseAscAuxillaryFunction", BYTE, "0: there is none."),
+    ACTION + (4,): asc("timebaseAscSpecialFunction", BYTE, "0: there is none."),
+    ASC + (5, 4): asc(
+        "timebaseAscActionStatus", BYTE,
+        "The action that is scheduled at the time of the master's clock; 0 without a schedule.",
+    ),
+}  # fmt: skip
 PHASES: dict[Arcs, Named] = {
     ASC + (1, 1): most("maxPhases", "phases", 16),
     ASC + (1, 3): most("maxPhaseGroups", "groups of eight phases", 2),
@@ -175,7 +219,7 @@ COORD: dict[Arcs, Named] = {
     ASC + (4, 5): most("maxPatterns", "patterns", 48),
     ASC + (4, 8): most("maxSplits", "splits", 32),
     ASC + (4, 11): asc(
-        "localFreeStatus", "INTEGER { other(1), notFree(2), commandFree(3), transitionFree(4) }",
+        "localFreeStatus", "INTEGER { other(1), notFree(2), commandFree(3), transitionFree(4), badPlan(7) }",
         "Whether and why the cabinet is in free operation.",
     ),
     ASC + (4, 12): asc(
@@ -208,10 +252,15 @@ RINGS: dict[Arcs, Named] = {
         "the bits for gap out, max out and force-off are never set, and 2, maximum, doesn't occur",
     ),
 }  # fmt: skip
-NAMED: dict[Arcs, Named] = {**system(), **GLOBALS, **PHASES, **DETECTORS, **UNIT, **COORD, **PREEMPTS, **RINGS}
+NAMED: dict[Arcs, Named] = {
+    **system(), **GLOBALS, **TIMES, **PHASES, **DETECTORS, **UNIT, **COORD, **ACTIONS, **PREEMPTS, **RINGS
+}  # fmt: skip
 """The objects by their arcs without the last, in the order of a walk."""
 ROWS: dict[Arcs, Row] = {
     GLOBAL + (1, 3, 1): Row("module", "moduleNumber", "A module: here one, the software."),
+    SCHEDULE: Row("timeBaseSchedule", "timeBaseScheduleNumber", "An entry of the schedule: here one."),
+    EVENT: Row("timeBaseDayPlan", "dayPlanNumber, dayPlanEventNumber", "An event of the day plan."),
+    ACTION: Row("timebaseAscAction", "timebaseAscActionNumber", "A pattern that an event may command."),
     PHASE_CONTROL: Row("phaseControlGroup", "phaseControlGroupNumber", "The calls of eight phases."),
     DETECTOR_GROUP: Row(
         "vehicleDetectorStatusGroup", "vehicleDetectorStatusGroupNumber", "Eight vehicle detectors."
@@ -225,7 +274,7 @@ ROWS: dict[Arcs, Row] = {
 """The tables of which the front end has all columns that there are, by the arcs of their rows."""
 GROUPS: dict[Arcs, str] = {
     GLOBAL: "global", GLOBAL + (1,): "globalConfiguration", GLOBAL + (2,): "globalDBManagement",
-    GLOBAL + (3,): "globalTimeManagement", ASC + (2,): "detector", ASC + (2, 5): "volumeOccupancyReport",
-    ASC + (3,): "unit",
+    GLOBAL + (3,): "globalTimeManagement", GLOBAL + (3, 3): "timebase", ASC + (5,): "timebaseAsc",
+    ASC + (2,): "detector", ASC + (2, 5): "volumeOccupancyReport", ASC + (3,): "unit",
 }  # fmt: skip
 """The nodes above them that ARTERIAL-PROFILE-MIB doesn't have, each below one that is known."""

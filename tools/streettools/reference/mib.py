@@ -122,7 +122,8 @@ def front() -> Iterator[str]:
     for base, it in NAMED.items():
         found = [arcs for arcs in OBJECTS if arcs[: len(base)] == base]
         last = sorted(arcs[-1] for arcs in found)
-        end = str(last[0]) if len(last) == 1 else f"n, n from {last[0]} to {last[-1]}"
+        before = "".join(f"{it}." for it in found[0][len(base) : -1])
+        end = before + (str(last[0]) if len(last) == 1 else f"n, n from {last[0]} to {last[-1]}")
         access = "read, Set" if found[0] in WRITABLE else "read"
         syntax = it.syntax.replace("Integer32", "INTEGER")
         shown = (f"`{it.name}`", f"{dotted(base)}.{end}", access, escaped(syntax), escaped(it.text))

@@ -80,7 +80,8 @@ def test_a_walk_by_getbulk_meets_each_instance_once_in_order(tool):
 
 def test_tables_are_set_within_a_transaction(tool):
     first, fifth = f"{SPLITS}.1", f"{SPLITS}.5"
-    assert "noSuchName" in " ".join(tool("snmpset", "1", first, "i", 20))
+    # alone it would break rule 17, so it isn't put in force
+    assert "badValue" in " ".join(tool("snmpset", "1", first, "i", 20))
     tool("snmpset", "2c", CREATE, "i", 2)
     assert tool("snmpset", "2c", first, "i", 20, fifth, "i", 20) == [f"{first} = 20", f"{fifth} = 20"]
     assert tool("snmpget", "2c", first, CREATE) == [f"{first} = 15", f"{CREATE} = 2"]
@@ -313,9 +314,8 @@ def test_statuses_of_version_2c_say_what_is_wrong(front):
     rows = [
         (f"{ASC}.4.14.0", ber.OCTETS, octets, 7, 3),
         (f"{ASC}.4.14.0", ber.INTEGER, number(300), 10, 3),
-        (f"{ASC}.4.14.0", ber.INTEGER, number(9), 12, 3),
         (f"{ASC}.4.10.0", ber.INTEGER, number(1), 17, 2),
-        (f"{ASC}.1.2.1.4.2", ber.INTEGER, number(10), 12, 2),
+        (f"{ASC}.1.2.1.4.2", ber.INTEGER, number(256), 10, 3),
         (f"{ASC}.1.2.1.4.17", ber.INTEGER, number(10), 11, 2),
         ("1.3.6.1.2.1.99.0", ber.INTEGER, number(1), 17, 2),
         (f"{ASC}.6.3.1.2.1", ber.INTEGER, number(2), 10, 3),

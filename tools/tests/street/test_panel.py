@@ -73,7 +73,7 @@ def feed_of(address):
 def text_of(browser, name):
     """Returns all that an element of the page says, at one moment: the page may draw it anew behind that."""
     return browser.execute_script(
-        "const it = document.getElementById(arguments[0]); return it ? it.innerText : ''", name
+        "const it = document.getElementById(arguments[0]); return it ? it.innerText ?? it.textContent : ''", name
     )
 
 

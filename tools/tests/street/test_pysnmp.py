@@ -138,5 +138,5 @@ def test_version_2c_walks_all_of_a_cabinet_by_getbulk_to_its_end(version2):
 def test_version_2c_sets_a_pattern_and_reads_it_back(version2):
     assert version2.set(2, (CONTROL, 1)) == (0, 0)
     assert [version2.get(cabinet, CONTROL) for cabinet in (1, 2, 3)] == [[0], [1], [0]]
-    # inconsistentValue: a pattern that isn't defined now
-    assert version2.set(2, (CONTROL, 48)) == (12, 1)
+    # a pattern that isn't defined is free operation, as controllers do it
+    assert version2.set(2, (CONTROL, 48)) == (0, 0) and version2.get(2, CONTROL) == [254]

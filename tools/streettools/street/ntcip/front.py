@@ -8,11 +8,12 @@ import functools
 from ...shared.ber import (
     COUNTER, END_OF_VIEW, GAUGE, INTEGER, NO_SUCH_INSTANCE, NO_SUCH_OBJECT, Arcs, Field, number_of, unsigned_of,
 )  # fmt: skip
-from ...shared.oids import CLOCK, GLOBAL_TIME, PREEMPT_STATE, TRANSACTION, VEH_CALL
-from ...shared.snmp import BULK, GET, GET_NEXT, V1, Binding, Message
+from ...shared.cells import PATTERNS
+from ...shared.oids import CLOCK, CONTROL, ENTRIES, GLOBAL_TIME, PREEMPT_STATE, TRANSACTION, VEH_CALL
+from ...shared.snmp import BULK, GET, GET_NEXT, SET, V1, Binding, Message
 from ..known import DAY
 from ..street import LONGEST, NOBODY, Manager, Street
-from .judging import has_type, is_of_a_table, of_the_cabinet
+from .judging import has_type, is_of_a_download, is_of_a_table, of_the_cabinet
 from .managers import Copies, Managers
 from .objects import OBJECTS, ORDER, TYPES, WRITABLE
 from .order import InOrder
@@ -23,12 +24,14 @@ from .pdus import (
 from .reads import Front
 from .shown import Shown
 from .side import Silent
-from .transaction import GATHERING
+from .transaction import GATHERING, NORMAL
 
 MOST_BINDS = 32
 """The most bindings that a cabinet takes in a message."""
 MOST_REPEATED = 128
 ALL_BITS, BITS = 255, range(8)
+FREE = 254
+"""The command of free operation."""
 STATES = (b"off", b"on")
 WHOLE_TIME = (INTEGER, COUNTER, GAUGE)
 """As what the time may be set: globalTime is a Counter, which net-snmp sends as a Gauge."""
@@ -62,7 +65,7 @@ class Cabinet:
         """Returns the reply to a datagram. The cabinet itself answers if the datagram isn't a valid message, or only
         concerns the cabinet."""
         asked = asked_of(octets) if len(octets) <= LONGEST else None
-        if asked is None or self.is_of_the_cabinet(asked, manager):
+        if asked is None or self.is_of_the_cabinet(asked):
             passed_on = functools.partial(self.street.datagram, self.number, octets)
             return await self.in_order.done(manager, False, passed_on)
         return await self.in_order.done(manager, True, functools.partial(self.answer_here, asked, octets, manager))
@@ -77,13 +80,15 @@ class Cabinet:
                     return await self.carried_out(asked, octets, manager)
         return None
 
-    def is_of_the_cabinet(self, asked: Message, manager: Manager) -> bool:
-        """Tells whether a message is one of version 1 that names nothing of the front's. While messages of its manager
-        are carried out here, one of them may open a transaction: a cell after them waits for its turn."""
+    def is_of_the_cabinet(self, asked: Message) -> bool:
+        """Tells whether a message is one of version 1 that names nothing of the front's, sets no cell and commands no
+        pattern. While a transaction is open, what reads a cell is carried out here too, in its turn."""
         if asked.version != V1 or asked.kind == GET_NEXT:
             return False
-        gathers = self.transaction.state == GATHERING or self.in_order.is_here(manager)
-        return not any(it.arcs in OBJECTS or gathers and is_of_a_table(it.arcs) for it in asked.bindings)
+        names = [it.arcs for it in asked.bindings]
+        sets = asked.kind == SET and not is_of_a_download(names)
+        takes = sets or self.transaction.state == GATHERING
+        return not any(it in OBJECTS or takes and is_of_a_table(it) or sets and it == CONTROL for it in names)
 
     async def carried_out(self, asked: Message, octets: bytes, manager: Manager) -> bytes:
         """Returns the reply to a message that is carried out here."""
@@ -169,6 +174,9 @@ class Cabinet:
         cells, others, own = self.parted(asked)
         for at, it in own:
             self.test(at, it, len(asked.bindings))
+        if cells and self.transaction.state == NORMAL:
+            await self.put_cells(cells, len(asked.bindings), manager)
+            return
         self.transaction.test(cells, manager, asked.number)
         await self.put_others(asked, others)
         self.transaction.gather(cells, manager)
@@ -179,12 +187,15 @@ class Cabinet:
                 await self.do(at, it)
 
     def parted(self, asked: Message) -> tuple[Parted, Parted, Parted]:
-        """Parts what is set into cells for the transaction, objects of the cabinet, and those of the front."""
+        """Parts what is set into cells for a transaction or a download of their own, objects of the cabinet, and those
+        of the front."""
         cells, others, own = [], [], []
+        state = self.transaction.state
+        takes = state == GATHERING or state == NORMAL and not is_of_a_download([it.arcs for it in asked.bindings])
         for at, it in enumerate(asked.bindings, 1):
             if it.arcs in OBJECTS:
                 own.append((at, it))
-            elif self.transaction.state == GATHERING and is_of_a_table(it.arcs):
+            elif takes and is_of_a_table(it.arcs):
                 cells.append((at, it))
             else:
                 others.append((at, it))
@@ -194,10 +205,29 @@ class Cabinet:
         """Sets objects of the cabinet in one message. What it refuses is raised."""
         if not others:
             return
-        status, index = await self.front.side.set([it for _, it in others])
+        sent = [await self.commanded(it) for _, it in others]
+        status, index = await self.front.side.set(sent)
         if status:
             at, it = others[index - 1] if 1 <= index <= len(others) else (0, others[0][1])
             raise Fault(status if asked.version == V1 else of_the_cabinet(status, it.arcs, it.value), at)
+        for (_, it), its in zip(others, sent):
+            if it.arcs == CONTROL:
+                self.front.is_undefined = its is not it
+
+    async def commanded(self, it: Binding) -> Binding:
+        """Returns what the cabinet is sent for a binding: free operation in place of a pattern that isn't defined, as
+        controllers do it."""
+        if it.arcs != CONTROL or it.value.tag != INTEGER or value_of(it.value) not in PATTERNS:
+            return it
+        (cycle,) = await self.front.side.numbers(ENTRIES["pattern"] + (2, value_of(it.value)))
+        return it if cycle else Binding(CONTROL, whole(FREE))
+
+    async def put_cells(self, cells: Parted, count: int, manager: Manager) -> None:
+        """Puts cells in force that are set outside a transaction. Nothing else may be set in their message, which has
+        `count` bindings: a Set is done completely or not at all."""
+        if len(cells) < count:
+            raise Fault(GEN_ERR, cells[0][0])
+        await self.transaction.put_at_once(cells, manager)
 
     def test(self, at: int, it: Binding, count: int) -> None:
         """Raises Fault if a binding can't set an object of the front, in a message of `count` bindings."""

@@ -25,6 +25,10 @@ ORDERS: dict[Arcs, Kind] = {
 """What the profile's objects take that aren't cells."""
 
 
+STRUCTURE = {ENTRIES["phase"] + (column,) for column in (20, 21, 22, 23)} | {SEQUENCE_ENTRY + (3,)}
+"""The columns that only a transaction changes: start-up, options, rings, partners and orders of phases."""
+
+
 @functools.cache
 def cells() -> dict[Arcs, Kind]:
     """Returns what each cell of the tables takes, by its object."""
@@ -39,6 +43,24 @@ def is_cell(name: Arcs) -> bool:
 def is_of_a_table(name: Arcs) -> bool:
     """Tells whether a name is one of the tables that downloads change, whether or not there is such a cell."""
     return name in cells() or any(name[: len(table)] == table for table in TABLES)
+
+
+def needs_transaction(name: Arcs) -> bool:
+    """Tells whether a cell is one that only a transaction changes."""
+    return any(name[: len(column)] == column for column in STRUCTURE)
+
+
+def fault_of(name: Arcs, value: Field) -> int:
+    """Returns the status of a cell of the tables that can't be set to a value, 0 if it can."""
+    kind = cells().get(name)
+    if kind is None:
+        return NO_CREATION if has_type(name, cell_columns()) else NOT_WRITABLE
+    return misfit(kind, value)
+
+
+def is_of_a_download(names: list[Arcs]) -> bool:
+    """Tells whether a Set of some objects is one of the profile's own downloads."""
+    return bool(names) and names[0] in (oids.BEGIN, oids.ID)
 
 
 def misfit(kind: Kind, value: Field) -> int:

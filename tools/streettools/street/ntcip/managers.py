@@ -101,6 +101,12 @@ class Managers:
         last, when = self.asked.get(manager, (number, 0.0))
         return 0 < (last - number) % NUMBERS <= LATE and time.monotonic() <= when + SECONDS
 
+    def has_asked(self, manager: Manager) -> bool:
+        """Tells whether a manager, or another one of its address, has asked for a transaction not long ago: a cell of
+        its that comes now may be a late one of that transaction."""
+        since = time.monotonic() - SECONDS
+        return any(when >= since for (address, _), (_, when) in self.asked.items() if address == manager[0])
+
     def ending(self, manager: Manager) -> bool | None:
         """Returns whether the last transaction of a manager ended as it was asked for, None if it has had none."""
         return self.endings.get(manager if manager in self.asked else manager[0])

@@ -17,6 +17,7 @@ from .judging import columns
 from .operation import operation
 from .pdus import text, whole
 from .reads import Front, Read, by_stage, constant, kept
+from .timebase import timebase
 from .vehicles import vehicles
 
 FLASH, COORD, SEEK = 6, 4, 3
@@ -71,8 +72,10 @@ async def short_alarms(front: Front) -> Field:
 
 
 async def free_status(front: Front) -> Field:
-    """Returns notFree (2), commandFree (3), transitionFree (4) or other (1)."""
+    """Returns notFree (2), commandFree (3), transitionFree (4), badPlan (7) or other (1)."""
     mode, command = await front.side.numbers(MODE, CONTROL)
+    if command == 254 and front.is_undefined:
+        return whole(7)
     if mode == COORD:
         return whole(2)
     if mode == SEEK:
@@ -170,7 +173,8 @@ def preempts() -> dict[Arcs, Read]:
     return made
 
 
-OBJECTS: dict[Arcs, Read] = {**scalars(), **modules(), **calls(), **preempts(), **operation(), **vehicles()}
+OBJECTS: dict[Arcs, Read] = {**scalars(), **modules(), **calls(), **preempts(), **operation(), **vehicles(),
+                            **timebase()}  # fmt: skip
 ORDER = sorted(OBJECTS)
 WRITABLE: set[Arcs] = {GLOBAL_TIME, TRANSACTION}
 WRITABLE |= {column + (group,) for column in (VEH_CALL, PED_CALL) for group in (1, 2)}

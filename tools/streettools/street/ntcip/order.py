@@ -28,11 +28,6 @@ class InOrder:
     def __init__(self) -> None:
         self.of: dict[Manager, Queue] = {}
 
-    def is_here(self, manager: Manager) -> bool:
-        """Tells whether a message of a manager is being carried out here."""
-        queue = self.of.get(manager)
-        return queue is not None and queue.last_here is not None and not queue.last_here.done()
-
     async def done(self, manager: Manager, is_here: bool, work: Callable[[], Awaitable[Result]]) -> Result:
         """Does the work of a message in its turn. One that is carried out here waits for all before it, another one
         for those that are carried out here."""

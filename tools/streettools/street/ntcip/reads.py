@@ -18,6 +18,8 @@ class Front:
         self.transaction = Transaction(self.side, street.downloads, managers)
         self.people = [0, 0]
         """The bits of the calls of people that were set last, by group."""
+        self.is_undefined = False
+        """Whether the pattern that was commanded last isn't defined."""
 
 
 Read = Callable[[Front], Awaitable[Field]]

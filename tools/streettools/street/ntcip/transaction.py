@@ -9,10 +9,10 @@ from ...shared.oids import BEGIN, DETAIL, FINISH, ID, OUTCOME, PART, ROW, STATE,
 from ...shared.snmp import Binding
 from ..known import Downloads
 from ..street import Manager
-from .judging import cell_columns, cells, has_type, misfit
+from .judging import fault_of, needs_transaction
 from .managers import Managers
 from .pdus import (
-    GEN_ERR, INCONSISTENT_VALUE, NO_CREATION, NOT_WRITABLE, RESOURCE_UNAVAILABLE, WRONG_VALUE, Fault, whole,
+    GEN_ERR, INCONSISTENT_VALUE, RESOURCE_UNAVAILABLE, WRONG_VALUE, Fault, whole,
 )  # fmt: skip
 from .side import Side
 
@@ -58,10 +58,7 @@ class Transaction:
         for at, it in given:
             if self.managers.is_late(manager, number) or not self.managers.holds(manager):
                 raise Fault(GEN_ERR, at)
-            kind = cells().get(it.arcs)
-            if kind is None:
-                raise Fault(NO_CREATION if has_type(it.arcs, cell_columns()) else NOT_WRITABLE, at)
-            if status := misfit(kind, it.value):
+            if status := fault_of(it.arcs, it.value):
                 raise Fault(status, at)
             known.add(it.arcs)
             if len(known) > MOST_CELLS:
@@ -72,6 +69,26 @@ class Transaction:
         if given:
             self.cells |= {it.arcs: it for _, it in given}
             self.managers.ports.add(manager)
+
+    async def put_at_once(self, given: Cells, manager: Manager) -> None:
+        """Puts cells in force that are set outside a transaction, as a download of their own. Raises Fault, and changes
+        no table, if a cell can't be set so, if its manager has asked for a transaction not long ago, or if the tables
+        would break a rule: `dbVerifyError` says which."""
+        for at, it in given:
+            if self.managers.has_asked(manager):
+                raise Fault(INCONSISTENT_VALUE, at)
+            if status := fault_of(it.arcs, it.value):
+                raise Fault(status, at)
+            if needs_transaction(it.arcs):
+                raise Fault(GEN_ERR, at)
+        first = given[0][0]
+        try:
+            await self.send([it for _, it in given])
+        except Refused as refused:
+            self.error = refused.why
+            raise Fault(GEN_ERR if refused.why in (BETWEEN, NO_NUMBER) else INCONSISTENT_VALUE, first) from None
+        if not await self.put_in_force():
+            raise Fault(GEN_ERR, first)
 
     # states
 
@@ -134,15 +151,20 @@ class Transaction:
 
     async def finish(self) -> None:
         """Puts the tables in force."""
-        done, (stage,) = await self.side.set_and_look([self.named(), Binding(FINISH, whole(1))], [STATE])
+        is_done = await self.put_in_force()
         self.cells = {}
-        if done == 0 and stage == DONE:
+        if is_done:
             self.managers.finished()
             self.end(NORMAL, WITHOUT_ERROR, b"")
             return
         self.managers.failed()
         self.end(NORMAL, WITH_ERROR, BETWEEN)
         raise Fault(GEN_ERR, 1)
+
+    async def put_in_force(self) -> bool:
+        """Finishes the download; returns whether its tables are in force."""
+        done, (stage,) = await self.side.set_and_look([self.named(), Binding(FINISH, whole(1))], [STATE])
+        return done == 0 and stage == DONE
 
     async def close_again(self, manager: Manager) -> None:
         """Answers a NORMAL of a manager without a transaction as the one that ended its last transaction. Of a manager

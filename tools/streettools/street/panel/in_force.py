@@ -9,6 +9,7 @@ from typing import Any
 
 from ...shared.oids import VERSION, object_of
 from ...shared.tables import ALL, Tables
+from .layout import DWELL, PREEMPTS
 
 Name = tuple[int, ...]
 Cell = tuple[Any, ...]
@@ -17,9 +18,9 @@ Asked = Callable[[list[Name]], Awaitable[Values | None]]
 """Gets some objects: their numbers, or octets; None where the cabinet is silent."""
 
 REFERENCE = ("unit", 8)
-PHASE_COLUMNS, PATTERN_COLUMNS, SPLIT_COLUMNS = (8, 9, 21, 22, 23), (2, 3, 4, 5), (3, 5)
-"""Clearances, options, ring and partners of phases; cycle, offset, split and sequence of patterns; times of splits,
-and which phases they coordinate."""
+PHASE_COLUMNS, PATTERN_COLUMNS, SPLIT_COLUMNS = (2, 8, 9, 21, 22, 23), (2, 3, 4, 5), (3, 5)
+"""Walk, clearances, options, ring and partners of phases; cycle, offset, split and sequence of patterns; times of
+splits, and which phases they coordinate."""
 AT_ONCE = 30
 """How many objects a message asks for, beside the version."""
 
@@ -44,6 +45,7 @@ async def read(asked: Asked, version: int) -> Tables:
     tables.cells = {}
     first = [("phase", phase, column) for phase in ALL for column in PHASE_COLUMNS]
     first += [("pattern", pattern, column) for pattern in range(1, 49) for column in PATTERN_COLUMNS]
+    first += [("preempt", preempt, DWELL) for preempt in PREEMPTS]
     await taken(asked, [REFERENCE, *first], tables, version)
     patterns = tables.patterns()
     splits = sorted({tables.pattern(it, 4) for it in patterns} & set(range(1, 33)))

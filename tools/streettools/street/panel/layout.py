@@ -9,6 +9,8 @@ from ...shared.plans import plan
 from ...shared.tables import Tables
 
 Facts = dict[str, Any]
+WALK, DWELL, PREEMPTS = 2, 13, range(1, 9)
+"""The columns of a phase's walk and of a preempt's dwell phases; the numbers of preempts."""
 
 
 def sides(tables: Tables) -> list[list[int]]:
@@ -55,6 +57,8 @@ def facts(number: int, tables: Tables, version: int = 0) -> Facts:
         "number": number,
         "version": version,
         "phases": tables.enabled(),
+        "walks": [it for it in tables.enabled() if tables.phase(it, WALK)],
+        "preempts": [it for it in PREEMPTS if tables.cells.get(("preempt", it, DWELL))],
         "rings": rings(tables, 1),
         "sides": sides(tables),
         "patterns": patterns,

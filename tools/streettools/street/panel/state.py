@@ -40,6 +40,8 @@ class Shown:
     since: list[int] = field(default_factory=lambda: [0] * 16)
     ped_since: list[int] = field(default_factory=lambda: [0] * 16)
     greens: collections.deque[Green] = field(default_factory=lambda: collections.deque(maxlen=4000))
+    is_failing: bool = False
+    """Whether the master's last note of it was that it doesn't answer."""
     changed: int = 0
 
     def take(self, words: list[str]) -> None:
@@ -64,7 +66,7 @@ class Shown:
     def row(self) -> list[Any]:
         """Returns what a page receives of it."""
         return [self.tick, self.vehicles, self.pedestrians, self.mode, self.counter, self.target, self.version,
-                self.since, self.ped_since]  # fmt: skip
+                self.since, self.ped_since, self.is_failing]  # fmt: skip
 
 
 def note_text(line: str) -> str:
@@ -141,6 +143,13 @@ class PanelState(Hearer):
         elif line[0] in "ML":
             self.change += 1
             self.notes.append((self.change, self.ticks, note_text(line)))
+            self.note(line.split(" "))
+
+    def note(self, words: list[str]) -> None:
+        """Takes an M or an L line, by its words: whether the master says that a cabinet fails, or is good again."""
+        if words[0] == "M" and words[2] in NOTES:
+            shown = self.cabinets[int(words[1]) - 1]
+            shown.is_failing, shown.changed = words[2] == "fail", self.change
 
     def ended(self, died: Died | None) -> None:
         self.ending = f"the program ended: {died}" if died else None

@@ -15,7 +15,7 @@ from .panel import Panel
 PAGES = pathlib.Path(__file__).resolve().parent / "pages"
 DRAWING = [pathlib.Path(it) for it in ("/usr/share/nodejs/d3/dist/d3.min.js", "/usr/share/javascript/d3/d3.min.js")]
 """Where Debian's packages node-d3 and libjs-d3 have the library that draws."""
-FILES = ("index.html", "panel.css", "panel.js", "diagram.js")
+FILES = ("index.html", "panel.css", "panel.js", "diagram.js", "intersection.js")
 OPEN = [f"/{name}" for name in (*FILES[1:], "d3.min.js")]
 """What is given without a token: it is the same everywhere, and says nothing of the street."""
 MOST_PAGES, MOST_ASKED, BACKLOG = 250, 4096, 16

@@ -11,6 +11,7 @@ const by = (id) => document.getElementById(id);
 let socket = null;
 let viewed = 0;
 let resumed = 1;
+let cards = [];
 
 function made(kind, classes, text) {
   const it = document.createElement(kind);
@@ -52,8 +53,8 @@ function ask(order) {
 // what the street tells
 
 function shownOf(row) {
-  const [tick, vehicles, pedestrians, mode, counter, target, version, since, pedSince] = row;
-  return { tick, vehicles, pedestrians, mode, counter, target, version, since, pedSince };
+  const [tick, vehicles, pedestrians, mode, counter, target, version, since, pedSince, isFailing] = row;
+  return { tick, vehicles, pedestrians, mode, counter, target, version, since, pedSince, isFailing };
 }
 
 function take(told) {
@@ -64,8 +65,8 @@ function take(told) {
   }
   if (told.laid) {
     known.facts[told.laid.number - 1] = told.laid;
-    by("cards").children[told.laid.number - 1].dataset.tick = "";
-    if (told.laid.number === viewed) buildPhases();
+    cards[told.laid.number - 1].dataset.state = "";
+    if (told.laid.number === viewed) buildCabinet();
   }
   if (told.all) clearLists();
   if (told.now !== undefined) known.now = told.now;
@@ -211,21 +212,65 @@ function lamp(letter, name, label) {
 }
 
 function buildCards() {
-  const cards = known.facts.map((facts) => {
+  cards = known.facts.map((facts) => {
     const card = made("a", "card");
     card.href = `#${facts.number}`;
-    card.append(made("strong", "", cabinetTitle(facts.number)), made("span", "mode"), made("div", "lamps"));
+    card.append(made("strong", "", cabinetTitle(facts.number)), made("span", "mode"), made("div", "bad"));
+    card.append(made("div", "lamps"));
     card.querySelector(".mode").before(" ");
     return card;
   });
   by("cards").replaceChildren(...cards);
+  delete by("cards").dataset.order;
+}
+
+// What is wrong with a cabinet, in words; nothing where nothing is.
+function badOf(number) {
+  const isFailing = known.cabinets[number] && known.cabinets[number].isFailing;
+  const words = [isFailing ? "fails: it doesn't answer the master" : "", known.line.hanging.includes(number) ? "hangs" : ""];
+  return words.filter(Boolean).join(", ");
+}
+
+// Tells whether a cabinet is one of those that the fields above the cards ask for.
+function isCardWanted(number) {
+  const [kind, text] = [by("card-kind").value, by("card-text").value.trim().toLowerCase()];
+  const mode = known.cabinets[number] ? known.cabinets[number].mode[0] : "S";
+  if (kind && !(kind === "failing" ? badOf(number) : kind.includes(mode))) return false;
+  return !text || String(number) === text || cabinetName(number).toLowerCase().includes(text);
+}
+
+const ORDERS = {
+  number: () => "",
+  name: (number) => cabinetName(number),
+  mode: (number) => (known.cabinets[number] ? modeText(known.cabinets[number].mode) : ""),
+  failing: (number) => (badOf(number) ? "0" : "1"),
+};
+
+// Shows the cards that are asked for, in the order that is asked for.
+function arrangeCards() {
+  const rank = ORDERS[by("card-order").value];
+  const numbers = known.facts.map((it) => it.number);
+  numbers.sort((one, other) => rank(one).localeCompare(rank(other), undefined, { numeric: true }) || one - other);
+  const wanted = numbers.filter(isCardWanted);
+  if (by("cards").dataset.order !== numbers.join()) {
+    by("cards").dataset.order = numbers.join();
+    const focused = document.activeElement;
+    by("cards").replaceChildren(...numbers.map((it) => cards[it - 1]));
+    if (cards.includes(focused)) focused.focus();
+  }
+  numbers.forEach((it) => { cards[it - 1].hidden = !wanted.includes(it); });
+  put(by("card-count"), wanted.length < numbers.length ? `${wanted.length} of ${numbers.length}` : "");
 }
 
 function showCard(facts) {
   const shown = known.cabinets[facts.number];
-  const card = by("cards").children[facts.number - 1];
-  if (!shown || card.dataset.tick === String(shown.tick)) return;
-  card.dataset.tick = shown.tick;
+  const card = cards[facts.number - 1];
+  const bad = badOf(facts.number);
+  const state = shown ? `${shown.tick} ${bad}` : "";
+  if (!shown || card.dataset.state === state) return;
+  card.dataset.state = state;
+  card.className = bad ? "card bad" : "card";
+  put(card.querySelector(".bad"), bad);
   put(card.querySelector(".mode"), modeText(shown.mode));
   const lamps = facts.phases.map((p) => lamp(shown.vehicles[p - 1], p, `phase ${p} ${COLOURS[shown.vehicles[p - 1]]}`));
   card.querySelector(".lamps").replaceChildren(...lamps);
@@ -338,12 +383,30 @@ function buildCabinet() {
   if (!facts) return;
   put(by("cabinet-title"), cabinetTitle(viewed));
   buildPhases();
+  buildDrawing(facts);
+  buildPreempts(facts);
+}
+
+// Draws the intersection, and names the phases that have no place in the drawing.
+function buildDrawing(facts) {
+  const names = (known.names.phases || [])[viewed - 1] || {};
+  const others = drawIntersection(by("intersection"), facts, names, (known.names.placeholders || [])[viewed - 1] || []);
+  by("other-phases").hidden = others.length === 0;
+  put(by("other-phases"), `Not drawn: ${others.map((p) => `phase ${p} ${phaseName(p)}`.trim()).join(", ")}.`);
+}
+
+// Lists the preempts. The input of one without dwell phases does nothing: its button is greyed, unless it is on.
+function buildPreempts(facts) {
   const preempts = Array.from({ length: 8 }, (_, at) => {
     const it = button(preemptTitle(at + 1), `preempt-${at + 1}`, true);
     it.addEventListener("click", () => toggle("preempt", at + 1));
+    if (!facts.preempts.includes(at + 1)) it.title = "no dwell phases: its input does nothing";
     return it;
   });
   by("preempts").replaceChildren(...preempts);
+  const none = preempts.map((_, at) => at + 1).filter((n) => !facts.preempts.includes(n));
+  by("no-preempts").hidden = none.length === 0;
+  put(by("no-preempts"), `Not configured: ${none.join(", ")}. A preempt without dwell phases does nothing.`);
 }
 
 function factRows(shown, details) {
@@ -407,6 +470,7 @@ function showPhase(p, shown) {
   const calls = [isCalled(p, "vehicles") ? "vehicle" : "", isCalled(p, "people") ? "person" : ""].filter(Boolean);
   put(by(`calls-${p}`), calls.join(", "));
   press(`hold-${p}`, known.inputs.has(`veh ${viewed} ${p}`));
+  showDrawn(p, shown, known.inputs.has(`veh ${viewed} ${p}`), isCalled(p, "vehicles"));
   const rate = by(`rate-${p}`);
   if (document.activeElement !== rate) rate.value = String(known.rates[`${viewed} ${p}`] || 0);
 }
@@ -418,7 +482,11 @@ function showCabinet() {
   showFacts(shown);
   for (const p of known.facts[viewed - 1].phases) showPhase(p, shown);
   press("hang", known.line.hanging.includes(viewed));
-  for (let n = 1; n <= 8; n += 1) press(`preempt-${n}`, known.inputs.has(`preempt ${viewed} ${n}`));
+  for (let n = 1; n <= 8; n += 1) {
+    const isOn = known.inputs.has(`preempt ${viewed} ${n}`);
+    press(`preempt-${n}`, isOn);
+    by(`preempt-${n}`).disabled = !isOn && !known.facts[viewed - 1].preempts.includes(n);
+  }
 }
 
 // all
@@ -435,7 +503,12 @@ function build() {
 function show() {
   put(by("time"), moment(known.now));
   if (viewed) showCabinet();
-  else known.facts.forEach(showCard);
+  else showCards();
+}
+
+function showCards() {
+  known.facts.forEach(showCard);
+  arrangeCards();
 }
 
 function look() {
@@ -475,6 +548,7 @@ for (const id of ["minutes", "outbound", "inbound"]) {
   by(id).addEventListener("change", () => drawDiagram(known));
 }
 for (const id of ["message-cabinet", "message-kind", "message-text"]) by(id).addEventListener("input", filterMessages);
+for (const id of ["card-kind", "card-text", "card-order"]) by(id).addEventListener("input", arrangeCards);
 window.addEventListener("hashchange", look);
 viewed = Number(location.hash.slice(1)) || 0;
 by("overview").hidden = viewed !== 0;
