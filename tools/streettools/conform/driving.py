@@ -1,5 +1,6 @@
 """A test on the device: its acts at their times, and polls in between."""
 
+import itertools
 import time
 from collections.abc import Callable
 from dataclasses import dataclass, field
@@ -21,6 +22,8 @@ LEAD = 5
 """The polls before the first act."""
 AT_ONCE = 40
 """The messages that wait for their answers at once, if each message advances the device's time by a known step."""
+MOST_GAP = 600
+"""The most ticks between two polls, in addition to the times in which nothing is sent."""
 SETTLED = 3
 """The polls that may follow the last act, in ticks of an act without a sample after it."""
 
@@ -261,6 +264,7 @@ class Drive:
         """Dates the acts by the samples around them, and keeps all samples."""
         places = [at for at, slot in enumerate(self.slots) if slot.sample is not None]
         self.found.samples = [slot.sample for slot in self.slots if slot.sample is not None]
+        self.refuse_jumps()
         for at, slot in enumerate(self.slots):
             if slot.act is None:
                 continue
@@ -271,6 +275,14 @@ class Drive:
             first = earlier.span.first + self.bench.step * (at - before)
             last = later.span.last - self.bench.step * (after - at)
             self.found.acts.append(self.done(slot, Span(first, max(first, last))))
+
+    def refuse_jumps(self) -> None:
+        """Refuses samples between which the device's time jumps: its sysUpTime isn't a time then."""
+        allowed = MOST_GAP + sum(act.ticks for act in self.script.acts)
+        for before, after in itertools.pairwise(self.found.samples):
+            if after.span.first - before.span.last > allowed:
+                jump = (after.span.first - before.span.last) / POLLS
+                raise CantTell(f"the device's sysUpTime jumps by {jump:g} s between two polls")
 
     def done(self, slot: Slot, span: Span) -> Done:
         """Returns an act that was done."""

@@ -110,9 +110,9 @@ class Watch:
         return Asked(GET, [(name, None) for name in (*self.names, *self.stages, *more)])
 
     def display(self, answer: Answer) -> Display | None:
-        """Returns what an answer shows; None if it isn't an answer without a fault."""
+        """Returns what an answer shows; None if it isn't an answer without a fault, or lacks an object of the poll."""
         values = answer.values()
-        return display_of(values, self.groups) if values else None
+        return display_of(values, self.groups) if all(it in values for it in self.names) else None
 
     def look(self) -> tuple[Answer, Display]:
         """Returns what the device shows now."""

@@ -2,6 +2,7 @@
 line each, and the other tests are done."""
 
 import json
+import random
 
 import pytest
 from streettools.shared import oids, snmp
@@ -66,6 +67,39 @@ def test_answers_that_are_not_messages_are_counted_and_ignored(relayed):
     report, status, _ = relayed(lambda number, asked, reply: [(0, b"\x30\x03\x02\x01"), *as_it_is(reply)])
     assert result(report)["outcome"] == "pass" and status == 0
     assert report["answers"]["malformed"] > 100
+
+
+def test_octets_at_random_are_counted_and_ignored(relayed):
+    dice = random.Random(7)
+
+    def change(number, asked, reply):
+        octets = bytearray(snmp.octets_of(reply))
+        octets[dice.randrange(len(octets))] ^= 1 << dice.randrange(8)
+        cut = bytes(octets[: dice.randrange(len(octets))])
+        return [(0, dice.randbytes(dice.randrange(1, 200))), (0, cut), *as_it_is(reply)]
+
+    report, status, _ = relayed(change)
+    assert result(report)["outcome"] == "pass" and status == 0
+    assert report["answers"]["malformed"] > 200
+
+
+def test_answers_that_lack_an_object_are_no_samples(relayed):
+    def change(number, asked, reply):
+        return as_it_is(reply._replace(bindings=reply.bindings[:3]) if is_poll(asked) and number > 400 else reply)
+
+    report, _, _ = relayed(change)
+    assert result(report)["outcome"] == "can't tell" and len(result(report)["words"]) == 1
+
+
+def test_a_time_that_jumps_cannot_be_told(relayed):
+    polls = []
+
+    def change(number, asked, reply):
+        polls.append(is_poll(asked))
+        return as_it_is(with_value(reply, UP_TIME, lambda it: it + 20_000) if sum(polls) > 100 else reply)
+
+    report, _, _ = relayed(change)
+    assert result(report)["words"] == ["the device's sysUpTime jumps by 200.1 s between two polls"]
 
 
 def test_second_answers_are_counted_and_ignored(relayed):

@@ -123,6 +123,20 @@ def test_a_wrong_script_is_refused_with_its_place(tmp_path, text, words):
     assert words in str(refused.value)
 
 
+@settings(max_examples=150, deadline=None)
+@given(some.data())
+def test_a_damaged_file_of_tests_is_read_or_refused(data):
+    files = sorted(scripts.LIBRARY.glob("*.toml"))
+    octets = bytearray(data.draw(some.sampled_from(files)).read_bytes())
+    for _ in range(data.draw(some.integers(1, 4))):
+        at = data.draw(some.integers(0, len(octets) - 1))
+        octets[at : at + data.draw(some.integers(0, 3))] = data.draw(some.binary(max_size=4))
+    try:
+        assert scripts.of_toml(bytes(octets), "damaged.toml")
+    except Fault as refused:
+        assert str(refused).startswith("damaged.toml: ")
+
+
 def test_a_scenario_is_a_test_of_its_first_cabinet(tmp_path):
     path = tmp_path / "mine.json"
     inputs = [
