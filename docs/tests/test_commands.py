@@ -26,6 +26,7 @@ NOT_RUN = {
     r"\./arterial (prove|take \S+ --sum SHA256)$": "it proves the program, which takes half an hour, or takes a proof over",
     r"\./cabinet ": "it serves until it is stopped; tools/tests/cabinet runs it",
     r"\./arterial plan edit ": "it serves until it is stopped; tools/tests/plan/edit runs it",
+    r"\./arterial conform (?!--list)": "it tests a device; tools/tests/conform does so with a street",
     r"\./arterial street ": "it serves until it is stopped; tools/tests/street runs it",
     r"(for port in .*; do )?snmpget -v1 -c public -Os 127": "it asks a street that serves; tools/tests/street does so",
     r"(\./arterial|python3 -m model) live$": "it waits for requests; vectors/live_sessions holds such sessions",

@@ -32,6 +32,7 @@ TOOLS = (
     Word("cabinet", "run a live cabinet that answers SNMP version 1 on loopback"),
     Word("cosim", "simulate traffic with the cabinets: SUMO's vehicles, or queues"),
     Word("street", "run the cabinets of a scenario live, each at its own port"),
+    Word("conform", "test a controller at an address against the proved cabinet"),
     Word("plan", "convert and check timing sheets"),
     Word("sweep", "run many plans over many scenarios, on one machine or several"),
 )

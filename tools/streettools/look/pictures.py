@@ -3,6 +3,8 @@
 import math
 import textwrap
 import warnings
+from collections.abc import Sequence
+from typing import Any
 
 from matplotlib.ticker import FuncFormatter, MultipleLocator
 
@@ -17,7 +19,7 @@ STEPS = (0.1, 0.2, 0.5, 1, 2, 5, 10, 15, 20, 30, 60, 120, 300, 600, 900, 1800, 3
 """How many seconds may lie between two marks of a time axis."""
 
 
-def day_axis(axes, start, end, step, began):
+def day_axis(axes: Any, start: float, end: float, step: float, began: float) -> None:
     """Marks an axis with the time of day, whose tick 0 is `began` seconds from midnight."""
     least = math.ceil((start / 10 + began) / step - 1e-9)
     most = math.floor((end / 10 + began) / step + 1e-9)
@@ -26,12 +28,12 @@ def day_axis(axes, start, end, step, began):
     axes.set_xlabel("time of day (hours:minutes:seconds)")
 
 
-def time_axis(axes, start, end, began=None):
+def time_axis(axes: Any, start: float, end: float, began: float | None = None) -> None:
     """Gives an axis the time from one tick to another, in seconds, written as minutes and seconds since the run began,
     or as the time of day if `began` says how many seconds from midnight that was."""
     axes.set_xlim(start / 10, end / 10)
-    step = next((it for it in STEPS if (end - start) / 10 <= 12 * it), None)
-    step = step or STEPS[-1] * -(-(end - start) // (120 * STEPS[-1]))
+    fitting = next((it for it in STEPS if (end - start) / 10 <= 12 * it), None)
+    step = fitting or STEPS[-1] * -(-(end - start) // (120 * STEPS[-1]))
     if began is not None:
         day_axis(axes, start, end, step, began)
         return
@@ -41,14 +43,14 @@ def time_axis(axes, start, end, began=None):
     axes.set_xlabel(f"time since the start of the run ({form})")
 
 
-def bars(axes, spans, low, height, name, **look):
+def bars(axes: Any, spans: Sequence[tuple[float, float]], low: float, height: float, name: str, **look: Any) -> None:
     """Draws spans of ticks as bars, and names their group in an SVG."""
     if spans:
         drawn = [(start / 10, (end - start) / 10) for start, end in spans]
         axes.broken_barh(drawn, (low, height), gid=name, **look)
 
 
-def width_of(text, size=9):
+def width_of(text: str, size: float = 9) -> float:
     """Returns about how many points a text of this size is wide."""
     return 0.58 * size * len(text)
 
@@ -60,24 +62,26 @@ def room(axes, start, end):
     return 72 * inches * (end - start) / 10 / (high - low)
 
 
-def escaped(text):
+def escaped(text: str) -> str:
     """Returns a text in which a dollar sign begins no formula."""
     return text.replace("$", r"\$")
 
 
-def figure(height, title, rows=1, ratios=None, under="", labels=()):
+def figure(
+    height: float, title: str, rows: int = 1, ratios: Any = None, under: str = "", labels: Sequence[str] = ()
+) -> tuple[Any, list[Any]]:
     """Returns a figure 11 inches wide with `rows` axes one above the other. Room is left around them for the title
     above, for the text under the title, for the text below the axes, and for the labels of the rows."""
     plt.rcParams.update(STYLE)
     warnings.filterwarnings("ignore", "Glyph .* missing from current font")
-    under = textwrap.wrap(under, 155)
-    above, height = 0.34 + 0.16 * len(under), height + 0.16 * len(under)
+    wrapped = textwrap.wrap(under, 155)
+    above, height = 0.34 + 0.16 * len(wrapped), height + 0.16 * len(wrapped)
     drawn, axes = plt.subplots(
         rows, 1, figsize=(11, height), sharex=True, squeeze=False, gridspec_kw={"height_ratios": ratios}
     )
     drawn.suptitle(escaped(title), x=0.01, ha="left", fontsize=11, fontweight="bold", color=INK)
-    if under:
-        text = escaped("\n".join(under))
+    if wrapped:
+        text = escaped("\n".join(wrapped))
         drawn.text(0.01, 1 - 0.3 / height, text, ha="left", va="top", fontsize=8, color=INK, linespacing=1.2)
     widest = max((width_of(line) for text in labels for line in text.split("\n")), default=0)
     left = min(0.3, max(0.105, (widest + 14) / (72 * 11)))
@@ -85,7 +89,7 @@ def figure(height, title, rows=1, ratios=None, under="", labels=()):
     return drawn, [row[0] for row in axes]
 
 
-def legend(drawn, keys):
+def legend(drawn: Any, keys: list[Any]) -> None:
     """Explains colours and lines in one row at the foot."""
     drawn.legend(
         handles=keys, ncol=len(keys), loc="lower center", frameon=False, fontsize=8, handlelength=1.4, borderaxespad=0.2

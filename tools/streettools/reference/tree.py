@@ -25,6 +25,7 @@ MODULES = {
     "cosim": [f"cosim.{module}" for module, _ in COSIM.values()],
     "street": ["street.words"],
     "cabinet": ["cabinet.command"],
+    "conform": ["conform.command"],
     "prove": ["launch.prove"],
     "take": ["launch.take"],
 }

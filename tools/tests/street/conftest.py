@@ -42,9 +42,9 @@ IS_MODEL = PROGRAM == TOP / "model/program"
 class Running:
     """A street that runs, and the software that talks with it."""
 
-    def __init__(self, words):
+    def __init__(self, words, env=None):
         command = [sys.executable, "-B", TOP / "tools/streettools", "street", "--program", PROGRAM, *map(str, words)]
-        self.street = subprocess.Popen(command, stderr=subprocess.PIPE, text=True, cwd=TOP)
+        self.street = subprocess.Popen(command, stderr=subprocess.PIPE, text=True, cwd=TOP, env=env)
         self.said, self.more = [], threading.Event()
         self.reader = threading.Thread(target=self.read)
         self.reader.start()

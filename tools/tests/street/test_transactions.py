@@ -225,9 +225,9 @@ class Talk:
     def __init__(self, world):
         self.world = world
 
-    async def set(self, manager, *pairs, number=None):
+    async def set(self, manager, *pairs, number=None, version=snmp.V2C):
         """Returns the status of a Set of numbers."""
-        octets = message(snmp.SET, number or next(self.world.numbers), *pairs)
+        octets = message(snmp.SET, number or next(self.world.numbers), *pairs, version=version)
         return snmp.message_of(await self.world.fronts.datagram(1, octets, manager)).first
 
     async def go_to(self, manager, state, number=None):
@@ -423,6 +423,16 @@ def test_a_tool_with_a_new_port_for_each_message_is_one_manager():
         steps = [(oids.TRANSACTION, 2), (FIRST, 41), (oids.TRANSACTION, 3), (oids.TRANSACTION, 1)]
         assert [await it.set(("127.0.0.1", next(ports)), step) for step in steps] == [0] * 4
         assert await it.read(FIRST) == [41]
+
+    talk(talked)
+
+
+def test_cells_that_are_sent_right_after_the_begin_of_a_transaction_belong_to_it():
+    async def talked(it):
+        it.world.street.after_message = 1
+        pairs = [(oids.CONTROL, 254), (oids.GLOBAL_TIME, 0), (oids.TRANSACTION, TRANSACTION), (FIRST, 41), (FIRST, 42)]
+        assert await asyncio.gather(*(it.set(ONE, pair, version=snmp.V1) for pair in pairs)) == [0] * 5
+        assert await it.read(oids.TRANSACTION, FIRST) == [TRANSACTION, 40]
 
     talk(talked)
 
