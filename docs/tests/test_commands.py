@@ -47,7 +47,8 @@ NOT_RUN = {
 """By what a command begins with: why it isn't run here."""
 
 SHOWN = (0, 2, 5, 8)
-"""With which statuses a command may end whose output is shown: done, a refused scenario or sheet, a refused trace, breaches in a log."""
+"""With which statuses a command may end whose output is shown: done, a refused scenario or sheet, a refused trace,
+breaches in a log."""
 
 LAUNCHER = """#!/bin/sh
 checkout='' program={program} tools={top}/tools
