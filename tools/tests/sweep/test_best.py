@@ -238,14 +238,14 @@ def test_a_space_with_fewer_plans_than_the_budget_is_tried_whole(two):
 
 def test_the_goal_is_the_weighted_sum_with_the_worst_phase_of_each(two):
     study = waits().replace('measures = ["services"]', 'measures = ["services", "wait_greatest each phase"]')
-    assert best(two, study)[0] == 0
+    status, _, said = best(two, study)
+    assert status == 0, said
     rows = table(two)
     for it in rows:
         worst = max(float(value) for name, value in it.items() if name.startswith("wait_greatest_c") and value)
         expected = float(it["wait_mean"]) + 0.5 * worst - 0.2 * float(it["band_outbound"])
         assert float(it["goal"]) == pytest.approx(expected)
     means = [statistics.fmean(float(it["goal"]) for it in rows[at : at + 3]) for at in range(0, len(rows), 3)]
-    said = best(two, study, "--anew")[2]
     assert f"best: plan {1 + means.index(min(means))}," in said and f"goal {min(means):.6g}" in said
 
 
