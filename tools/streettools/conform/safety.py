@@ -57,9 +57,10 @@ def frame_lines(driven: Driven, forced: list[int], due: Expected, has_clearance:
     counts them. A mode that the device doesn't report is that of the proved cabinet."""
     found: list[str] = []
     before: object = None
+    tick = START
     for sample in filled(driven, due, has_clearance):
         shown = sample.display
-        is_dark, tick = shown.is_dark(), START + sample.span.last
+        is_dark, tick = shown.is_dark(), max(tick, START + sample.span.last)
         mode = mode_of(shown, not is_dark or before is not None)
         if not shown.stage and mode == "F":
             mode = due.at(tick).mode

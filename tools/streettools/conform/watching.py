@@ -59,14 +59,16 @@ class Timer:
         self.stamp = answer.values().get(UP_TIME, 0)
 
     def span(self, answer: Answer) -> Span:
-        """Returns when an answer was given; raises Restarted if the device's time went back."""
+        """Returns when an answer was given; raises Restarted if the device's time went back. A device that runs by
+        itself may read its time and its display apart, but both while the poll is under way."""
         assert self.first is not None
         if self.is_stamped:
             past = answer.values().get(UP_TIME, 0) - self.stamp
             if past < self.last:
                 raise Restarted("the device restarted: its sysUpTime went back")
             self.last = past
-            return Span(past // 10, -(-past // 10))
+            apart = 0 if self.step else int(POLLS * self.speed * (answer.received - answer.sent))
+            return Span(max(0, past // 10 - apart), -(-past // 10) + apart)
         scale = POLLS * self.speed
         first = math.floor(scale * (answer.sent - self.first.received))
         return Span(max(0, first), math.ceil(scale * (answer.received - self.first.sent)))
