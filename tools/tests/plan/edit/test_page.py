@@ -220,17 +220,32 @@ def test_what_is_typed_and_saved_keeps_comments_and_is_there_after_a_reload(page
 def test_two_pages_show_the_same_plan(page):
     driver, first = page.driver, page.driver.current_window_handle
     driver.switch_to.new_window("window")
-    other = Page(driver, page.address)
-    other.set("offset-1", 7)
-    other.shows("kept", "2 pages are open")
-    driver.switch_to.window(first)
-    page.has("offset-1", 7)
-    page.click("undo")
+    second = driver.current_window_handle
+    try:
+        other = Page(driver, page.address)
+        other.set("offset-1", 7)
+        other.shows("kept", "2 pages are open")
+        driver.switch_to.window(first)
+        page.has("offset-1", 7)
+        page.click("undo")
+        page.has("offset-1", 0)
+        driver.switch_to.window(second)
+        other.has("offset-1", 0)
+    finally:
+        driver.switch_to.window(second)
+        driver.close()
+        driver.switch_to.window(first)
+
+
+def test_a_typed_value_is_replaced_by_what_another_page_makes_of_it(page):
+    """Also if the change and its undo come so fast that the page is only shown the plan as it was before."""
+    page.run("window.takes = takeVersion; takeVersion = (told) => { if (told.version !== 2) takes(told); };")
+    page.type("offset-1", 7)
+    page.until(lambda: page.version() == 2)
+    assert page.value("offset-1") == "7"
+    page.run("step(true)")
+    page.until(lambda: page.version() == 1)
     page.has("offset-1", 0)
-    driver.switch_to.window(driver.window_handles[1])
-    other.has("offset-1", 0)
-    driver.close()
-    driver.switch_to.window(first)
 
 
 def test_a_file_that_another_program_has_changed_is_asked_about(page, sheet):

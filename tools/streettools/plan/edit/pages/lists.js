@@ -11,6 +11,7 @@ function field(id, label, step, change) {
   Object.assign(it, { type: "number", id, step, min: 0 });
   it.setAttribute("aria-label", label);
   it.addEventListener("change", () => {
+    it.dataset.told = "typed"; // what is shown next replaces it, also if it is the value from before
     if (it.value !== "" && Number.isFinite(Number(it.value))) edit(change(Number(it.value)), true);
   });
   return it;
