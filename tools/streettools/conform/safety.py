@@ -1,14 +1,17 @@
 """The safety of what a device showed: the lines of its display, and the breaches that a judge finds in them.
 
-`breaches_of` is the only place that asks a judge. The independent model judges (`model/promises`): it reads the lines
-and the tables, and knows no rule of a tick.
+`breaches_of` is the only place that asks a judge: `arterial judge`, which reads the lines and the tables, and knows no
+rule of a tick.
 """
 
 import json
+import pathlib
+import tempfile
 from collections.abc import Iterator
 from typing import Any
 
-from ..shared import independent
+from ..log import judging
+from ..log.sentences import Line, Watch, words_of
 from ..shared.cells import cells_between, with_cells
 from ..shared.tables import Tables
 from . import steps
@@ -17,12 +20,14 @@ from .driving import LEAD, Driven
 from .expected import Expected, START
 from .objects import FLASH, FREE, Display
 from .scripts import Script
-from .sentences import COLOURS, SIGNALS
 from .watching import Sample, Span
 
 PHASES = 16
-TOLERANCE = 2
-"""The ticks by which the length of an interval may differ if the time of its polls isn't known exactly."""
+TOLERANCE, MOST_TOLERANCE = 2, 20
+"""The ticks by which the length of an interval may differ if the time of its polls isn't known exactly; the highest
+tolerance that the judge takes."""
+CLEARANCE = 9
+"""The column of red clearance in the phase table."""
 
 
 def mode_of(shown: Display, has_started: bool) -> str:
@@ -68,6 +73,8 @@ def frame_lines(driven: Driven, forced: list[int], due: Expected, has_clearance:
         what = (shown.vehicles.ljust(PHASES, "R"), shown.pedestrians.ljust(PHASES, "D"), mode, version)
         if what != before and "?" not in what[0] + what[1]:
             before = what
+            if found and found[-1].startswith(f"F 1 {tick} "):
+                found.pop()
             found.append(f"F 1 {tick} {what[0]} {what[1]} {mode} {10 * (shown.sync or 0)} 0 {version}")
     return found
 
@@ -93,7 +100,10 @@ def lines_of(
             staged = None
         elif done.act.kind == steps.DISCARD:
             staged = None
-    cabinet = {"base": "std8", "cells": cells_between(Tables("std8"), tables)}
+    cells = cells_between(Tables("std8"), tables)
+    if not has_clearance:  # it is shown as red, so none is expected
+        cells += [["phase", phase, CLEARANCE, 0] for phase in range(1, PHASES + 1)]
+    cabinet = {"base": "std8", "cells": cells}
     scenario: dict[str, Any] = {"version": 1, "rounds": 200, "ticks": 600, "cabinets": [cabinet]}
     if loads:
         scenario["loads"] = loads
@@ -112,43 +122,39 @@ def with_loads(frames: list[str]) -> list[str]:
     return found
 
 
-def breaches_of(scenario: dict[str, Any], lines: list[str], tolerance: int = 0) -> list[str]:
-    """Returns the breaches in the lines of one cabinet, which begin in the middle: each in words. Nothing is found if
-    no judge is here."""
-    if not independent.has_model():
+def breaches_of(program: str, scenario: dict[str, Any], lines: list[str], tolerance: int = 0) -> list[str]:
+    """Returns the breaches in the lines of one cabinet, which begin in the middle: each once, in words, with the time
+    of the test at which it shows first. With a tolerance a poll may have missed a short interval, so the order of
+    colours and signals isn't judged then."""
+    if not any(line.startswith("F ") for line in lines):
         return []
-    from model.promises.apart import apart
-    from model.promises.times import due
-    from model.promises.told import Street, intervals, seen_in
-    from model.scenario_read import content, read_value
-
-    whole = content(read_value(json.dumps(scenario).encode()))
-    versions = [whole.cabinets[0].tables]
-    for it in whole.loads:
-        versions.append(versions[-1].with_cells(it.what))
-    seen = [seen_in(it.split(" ")) for it in lines if it.startswith("F ")]
-    if not seen:
-        return []
-    street = Street(1, whole.cabinets[0], versions, seen, ticks=seen[-1].tick)
-
-    names = SIGNALS | COLOURS
-
-    def lengths() -> Iterator[str]:
-        for of_signals in (False, True):
-            for it in intervals(street, of_signals):
-                may = due(street, it)
-                if may is None or it.first is seen[0] or it.end is None:
-                    continue
-                is_long = may.most is not None and it.lasted > may.most + tolerance
-                if it.lasted < may.least - tolerance or is_long:
-                    most = "" if may.most is None or may.most == may.least else f" to {may.most / 10:g}"
-                    what = f"phase {it.phase} shows {names[it.shows]} for {it.lasted / 10:g} s"
-                    yield f"{what}; {may.least / 10:g}{most} s by its tables"
-
-    return [*dict.fromkeys(without_tick(it) for it in apart(street)), *lengths()]
+    with tempfile.TemporaryDirectory() as folder:
+        log = pathlib.Path(folder, "log")
+        log.write_text("".join(f"{line}\n" for line in (f"S {json.dumps(scenario)}", *lines)), encoding="ascii")
+        found = judging.judged(program, [str(log)], min(tolerance, MOST_TOLERANCE)).breaches
+    wanted: dict[int, list[judging.Breach]] = {}
+    for it in found:
+        if not tolerance or judging.CLAUSES[it.clause - 1] != "order":
+            wanted.setdefault(it.tick, []).append(it)
+    said: dict[str, str] = {}
+    for tick, words in worded(scenario, lines, wanted):
+        said.setdefault(words, f"{words} at {(tick - START - LEAD) / 10:.1f} s")
+    return list(said.values())
 
 
-def without_tick(line: str) -> str:
-    """Returns a breach with its tick as the time since the start of the test."""
-    tick, _, rest = line.removeprefix("tick ").partition(": ")
-    return f"{rest} at {(int(tick) - START - LEAD) / 10:.1f} s" if tick.isdecimal() else line
+def worded(
+    scenario: dict[str, Any], lines: list[str], wanted: dict[int, list[judging.Breach]]
+) -> Iterator[tuple[int, str]]:
+    """Yields the breaches with their ticks, in words, by the tables of the version before each."""
+    versions = [Tables("std8", scenario["cabinets"][0]["cells"])]
+    for load in scenario.get("loads", ()):
+        versions.append(with_cells(versions[-1], load["cells"]))
+    watch = Watch(versions[0])
+    for line in lines:
+        if not line.startswith("F "):
+            continue
+        _, _, tick, colours, signals, mode, _, _, version = line.split(" ")
+        for breach in wanted.get(int(tick), ()):
+            yield int(tick), words_of(watch, breach, Line(int(tick), colours, signals, mode))
+        watch.take(int(tick), colours, signals)
+        watch.tables = versions[int(version)]

@@ -5,7 +5,7 @@ NAMED = {
     "yellow-short": ("yellow-and-red-clearance", "its yellow change lasts 3.8 s; expected 4.0 s"),
     "walk-cut": ("walk-with-green", "its walk lasts 6.0 s; expected 7.0 s"),
     "no-dual-entry": ("dual-entry", "phase 8 still shows red at 21.6 s; expected green since 21.6 s"),
-    "barrier-crossed": ("barrier", "phases 1 and 8 are on together"),
+    "barrier-crossed": ("barrier", "phase 1 green and phase 8 yellow together; the plan has them in conflict"),
     "offset-late": ("offset", "coordSyncStatus is 1 s at 8.9 s; expected 0 s after local zero"),
     "download-in-parts": ("staged-download-in-force", "phase 2 still shows red at 37.1 s; expected green since 37.1 s"),
     "preempt-cuts-yellow": ("preempt-entry-in-clearance", "its yellow change lasts 1.6 s; expected 4.0 s"),

@@ -37,7 +37,7 @@ def test_the_text_says_what_is_wrong(written):
     assert lines[-1] == "3 tests: 1 pass, 1 differ, 1 can't tell"
     lasts = "its yellow change lasts 3.8 s; expected 4.0 s"
     assert f"phase 2 turns to red clearance at 19.9 s; expected at 20.1 s ({lasts})" in lines
-    assert "unsafe: phase 2 shows yellow change for 3.8 s; 4 s by its tables" in lines
+    assert "unsafe: phase 2 yellow lasted 3.8 s; the plan has 4.0 s at 19.9 s" in lines
 
 
 def test_json_has_the_first_difference_of_both_sides(written):
