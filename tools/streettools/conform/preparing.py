@@ -43,6 +43,13 @@ def release(bench: Bench) -> None:
         set_or_tell(bench, [(TRANSACTION, NORMAL)])
 
 
+def leave_transaction(bench: Bench) -> None:
+    """Raises CantTell if a transaction is open before the first test: it is somebody else's, and to end it would put
+    its verified tables in force."""
+    if bench.has_transactions and bench.device.get([TRANSACTION]).get(TRANSACTION, NORMAL) != NORMAL:
+        raise CantTell("a transaction is open on the device (dbCreateTransaction isn't normal): end it first")
+
+
 def to_flash(bench: Bench) -> None:
     """Commands flash, and waits until the device is in it."""
     set_or_tell(bench, [(CONTROL, FLASH)])

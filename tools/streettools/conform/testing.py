@@ -12,7 +12,7 @@ from . import needs, safety, sentences, steps
 from .comparing import Compared, asked_ticks, compared
 from .driving import Bench, CantTell, Drive, Driven
 from .expected import Expected, expected
-from .preparing import prepare
+from .preparing import leave_transaction, prepare
 from .scripts import Script, tables_before
 from .watching import Restarted
 
@@ -59,6 +59,8 @@ def judged(bench: Bench, script: Script, program: str) -> Result:
     tables = tables_before(script, bench.original)
     if lacking := list(dict.fromkeys(needs.lacking(script, tables, bench.watch.phases()))):
         return Result(script, UNKNOWN, [f"the device can't do this test: {it}" for it in lacking])
+    if not bench.was_used:
+        leave_transaction(bench)
     bench.has_begun = bench.was_used = True
     prepare(bench, tables)
     bench.watch.use({it.number for it in script.acts if it.kind == steps.PREEMPT}, set(tables.enabled()))

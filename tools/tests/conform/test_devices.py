@@ -5,6 +5,7 @@ import json
 import random
 
 import pytest
+from streettools.cabinet.messages import GET, message, reply_of
 from streettools.shared import oids, snmp
 from streettools.shared.snmp import SET
 
@@ -52,6 +53,20 @@ def test_a_device_that_stops_answering_cannot_be_told(relayed):
     assert status == 0
     outcomes = [(it["outcome"], it["words"]) for it in report["tests"]]
     assert all(outcome == "can't tell" and len(words) == 1 for outcome, words in outcomes), outcomes
+
+
+def test_a_transaction_of_somebody_else_is_left_open(device, tmp_path):
+    """Another manager has opened one (state 2) before the tests: no test is done, and the device isn't changed."""
+
+    def state(*pairs):
+        reply = device.ask(message(SET if pairs else GET, 7, list(pairs) or [(oids.TRANSACTION, None)]))
+        return reply_of(reply).bindings[0][2]
+
+    assert state((oids.TRANSACTION, 2)) == b"\2"
+    report, status = reported(device.where, *BOTH, folder=tmp_path)
+    assert status == 0 and {it["outcome"] for it in report["tests"]} == {"can't tell"}
+    assert all("a transaction is open on the device" in it["words"][0] for it in report["tests"])
+    assert state() == b"\2"
 
 
 def test_answers_that_arrive_late_are_counted(relayed):
