@@ -110,7 +110,9 @@ def test_a_file_that_is_too_long_is_not_read(proved, tmp_path):
     assert said == "scenario: limit .\narterial: expected at most 16777216 bytes, found 20000000\n"
 
 
-@pytest.mark.parametrize("command", ["run", "check", "overlaps", "live", "judge", "band", "respond", "generate", "survey"])
+@pytest.mark.parametrize(
+    "command", ["run", "check", "overlaps", "live", "judge", "band", "respond", "generate", "survey"]
+)
 def test_each_command_of_the_program_has_help(proved, command):
     """The stand-in's help has two of them; of the others all of it is shown."""
     for option in ("-h", "--help"):

@@ -19,9 +19,10 @@ TRIED = (64, 96, 128, 192, fix.LONGEST)
 def least(tables: Tables, pattern: int, known: Intersection) -> int:
     """Returns the shortest cycle in seconds in which some splits of a pattern keep the rules."""
     laid = Layout(tables, pattern)
+    asked = fix.Asked(known.partners, {})
     if has_pair(tables, pattern):
         for most in TRIED:
-            enough = np.flatnonzero(fix.laid_out(laid, known.partners, most)[1][-1] < fix.NEVER)
+            enough = np.flatnonzero(fix.laid_out(laid, asked, most)[1][-1] < fix.NEVER)
             if enough.size:
                 return int(enough[0])
     raise Wrong(f"pattern {pattern}: no cycle up to {fix.LONGEST} s is long enough for the minimum services")
