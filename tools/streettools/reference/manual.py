@@ -22,8 +22,8 @@ EXAMPLES = (
 )
 LAUNCHER = (
     "The launcher ./arterial accepts the name of a file after run, check, overlaps, judge, band and respond, in place "
-    "of standard input. arterial COMMAND --help shows the help of one command. As long as no proved program exists, the "
-    "unproved program answers, and a line on standard error says so."
+    "of standard input. arterial COMMAND --help shows the help of one command. As long as no proved program exists, "
+    "the unproved program answers, and a line on standard error says so."
 )
 
 
