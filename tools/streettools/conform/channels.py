@@ -10,15 +10,16 @@ import pathlib
 import socket
 import termios
 import tty
-from typing import Protocol, runtime_checkable
+from typing import Any, Protocol
 
 from ..shared.fault import Fault
 from ..shared.status import Status
 
+HAS = ("vehicle", "button", "preempt", "close")
+"""What a maker's own channel has."""
 SPEEDS = {it: getattr(termios, f"B{it}") for it in (1200, 2400, 4800, 9600, 19200, 38400, 57600, 115200)}
 
 
-@runtime_checkable
 class Channel(Protocol):
     """What changes the inputs of a device. Each call returns once the change was sent."""
 
@@ -92,8 +93,8 @@ class Serial(Lines):
         os.close(self.line)
 
 
-def own(path: str, name: str) -> Channel:
-    """Returns a channel that a class in a file is."""
+def own(path: str, name: str, has: tuple[str, ...]) -> Any:
+    """Returns an object of a class in a file, which has these methods."""
     spec = importlib.util.spec_from_file_location(pathlib.Path(path).stem, path)
     if spec is None or spec.loader is None or not pathlib.Path(path).is_file():
         raise Fault(f"{path}: no such file of Python", Status.FILE)
@@ -103,8 +104,8 @@ def own(path: str, name: str) -> Channel:
         made = getattr(module, name)()
     except Exception as fault:
         raise Fault(f"{path}: {name}: {type(fault).__name__}: {fault}") from None
-    if not isinstance(made, Channel):
-        raise Fault(f"{path}: {name} lacks one of vehicle, button, preempt, close")
+    if not all(callable(getattr(made, it, None)) for it in has):
+        raise Fault(f"{path}: {name} lacks one of {', '.join(has)}")
     return made
 
 
@@ -122,5 +123,6 @@ def opened(given: str, address: "object") -> Channel:
             return Serial(path, int(speed or 9600))
     path, _, name = given.rpartition(":")
     if path.endswith(".py") and name.isidentifier():
-        return own(path, name)
+        found: Channel = own(path, name, HAS)
+        return found
     raise Fault(f"{given} is not a channel: udp:HOST:PORT, serial:PATH:SPEED or FILE.py:CLASS")

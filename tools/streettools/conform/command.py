@@ -87,6 +87,10 @@ def add_device(words: argparse.ArgumentParser) -> None:
         "--channel", metavar="CHANNEL", help="a second channel for detectors, buttons and preempts: udp:HOST:PORT, "
         "serial:PATH:SPEED or FILE.py:CLASS (default: the device's objects)",
     )  # fmt: skip
+    words.add_argument(
+        "--events", metavar="FILE.py:CLASS", help="what the device itself reports of its display, by traps or in a "
+        "log: it is judged to the tick (default: only polls)",
+    )  # fmt: skip
     words.add_argument("--anywhere", action="store_true", help="allow a device that is not on this machine")
     words.add_argument("--yes", action="store_true", help="allow Sets on a device that is not on this machine")
 
@@ -164,6 +168,7 @@ def main(arguments: list[str]) -> int:
 
 def conformed(given: argparse.Namespace, tests: list[scripts.Script], where: tuple[str, int]) -> int:
     """Does the tests, and writes the reports."""
+    from . import events
     from .channels import opened
     from .device import Device
     from .hands import Hands
@@ -173,6 +178,7 @@ def conformed(given: argparse.Namespace, tests: list[scripts.Script], where: tup
 
     program = answering(given.program, say)
     channel = opened(given.channel, lambda host: place_of(f"{host}:1", given.anywhere)[0]) if given.channel else None
+    source = events.opened(given.events) if given.events else None
     device = Device(where, given.community, given.patience)
     try:
         tables, notes = tables_read(where, given.community, given.sheet)
@@ -186,14 +192,18 @@ def conformed(given: argparse.Namespace, tests: list[scripts.Script], where: tup
         bench, more = bench_of(
             device, hands, given.speed, tables, lambda: tables_read(where, given.community, given.sheet)[0]
         )
+        bench.events = source
+        if source is not None and not bench.is_stamped:
+            raise Fault("--events: the device's sysUpTime doesn't count, so its changes have no times")
         report = Report(given.where, program_words(program), counts=device.counts, notes=[*notes, *more])
         run_all(bench, tests, str(program), report)
         if given.load:
             report.load = under_load(given, where)
     finally:
         device.close()
-        if channel is not None:
-            channel.close()
+        for it in (channel, source):
+            if it is not None:
+                it.close()
     return ended(given, report)
 
 

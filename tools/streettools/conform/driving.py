@@ -9,8 +9,9 @@ from typing import Any, NamedTuple
 from ..cabinet.messages import SET, Reply
 from ..shared.oids import VERIFY_STATUS
 from ..shared.tables import Tables
-from . import steps
+from . import events, steps
 from .device import NO_SUCH_NAME, READ_ONLY, Answer, Asked, Device, refusal
+from .events import Events
 from .hands import VALID, Hands
 from .hostile import damaged_messages
 from .objects import GROUPS, PED_CALLS, VEH_CALLS, bits, group, name_of
@@ -53,6 +54,8 @@ class Driven:
     pedestrian_calls: int = 0
     lost: int = 0
     """The polls without an answer."""
+    exact: list[Sample] = field(default_factory=list)
+    """The display as the device itself reported it, each change at its tick."""
 
 
 class Sent(NamedTuple):
@@ -92,6 +95,8 @@ class Bench:
     """Whether the test that is under way has set something."""
     read: Callable[[], Tables] = Tables
     """Reads the tables of the device."""
+    events: Events | None = None
+    """What the device itself reports of its display."""
     advance: Callable[[float], object] = lambda seconds: None
     """Is called with the seconds of the device's time that a part of a test took."""
 
@@ -120,6 +125,8 @@ class Drive:
     def run(self) -> Driven:
         """Does the test."""
         watch, device = self.bench.watch, self.bench.device
+        if self.bench.events is not None:
+            events.reported(self.bench.events)
         first, shown = watch.look()
         self.timer.start(first)
         calls = [group(column, number) for column in (VEH_CALLS, PED_CALLS) for number in GROUPS]
@@ -138,6 +145,8 @@ class Drive:
         for _ in range(SETTLED):
             self.polled()
         self.settle()
+        if self.bench.events is not None:
+            self.found.exact = events.samples(self.bench.events, self.timer.stamp)
         return self.found
 
     # which message is next

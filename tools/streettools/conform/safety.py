@@ -63,7 +63,7 @@ def frame_lines(driven: Driven, forced: list[int], due: Expected, has_clearance:
     found: list[str] = []
     before: object = None
     tick = START
-    for sample in filled(driven, due, has_clearance):
+    for sample in driven.exact or filled(driven, due, has_clearance):
         shown = sample.display
         is_dark, tick = shown.is_dark(), max(tick, START + sample.span.last)
         mode = mode_of(shown, not is_dark or before is not None)
@@ -101,7 +101,8 @@ def lines_of(
         elif done.act.kind == steps.DISCARD:
             staged = None
     cells = cells_between(Tables("std8"), tables)
-    if not has_clearance:  # it is shown as red, so none is expected
+    if not (has_clearance or any("C" in it.display.vehicles for it in driven.exact)):
+        # red clearance is shown as red, so none is expected
         cells += [["phase", phase, CLEARANCE, 0] for phase in range(1, PHASES + 1)]
     cabinet = {"base": "std8", "cells": cells}
     scenario: dict[str, Any] = {"version": 1, "rounds": 200, "ticks": 600, "cabinets": [cabinet]}

@@ -75,7 +75,7 @@ def judged(bench: Bench, script: Script, program: str) -> Result:
     found = compared(driven, run, bench.watch.has_clearance)
     words = sentences.sentences(driven, found) + loads_differ(driven, found.expected) + refusals(driven)
     scenario, lines = safety.lines_of(driven, script, tables, found.expected, bench.watch.has_clearance)
-    width = max((it.span.last - it.span.first for it in driven.samples), default=0)
+    width = 0 if driven.exact else max((it.span.last - it.span.first for it in driven.samples), default=0)
     breaches = safety.breaches_of(str(program), scenario, lines, width + safety.TOLERANCE if width else 0)
     outcome = DIFFER if words or breaches else PASS
     return Result(script, outcome, words, breaches, driven, found)
