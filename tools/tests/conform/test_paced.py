@@ -120,7 +120,10 @@ def test_a_serial_line_gets_a_line_for_each_change():
         channel.vehicle(4, True)
         channel.button(2)
         channel.preempt(1, False)
-        assert os.read(master, 100) == b"veh 4 on\nped 2\npreempt 1 off\n"
+        said = b""
+        while len(said) < len(b"veh 4 on\nped 2\npreempt 1 off\n"):
+            said += os.read(master, 100)
+        assert said == b"veh 4 on\nped 2\npreempt 1 off\n"
     finally:
         channel.close()
         os.close(master)

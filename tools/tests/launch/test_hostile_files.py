@@ -69,7 +69,7 @@ def test_a_hostile_file_is_refused_in_lines(case, tmp_path, monkeypatch, capsys)
     assert words.run(command.split()) == 2
     out, err = capsys.readouterr()
     assert "Traceback" not in err and "a fault of this tool" not in err
-    assert len((out + err).splitlines()) <= 2 and len(max((out + err).splitlines(), key=len)) < 6000
+    assert len((out + err).splitlines()) <= 3 and len(max((out + err).splitlines(), key=len)) < 6000
 
 
 @pytest.mark.parametrize("name", ["Main\x1b[2J", "\x1b]0;owned\x07", "A\x9b31m", "A\u202eB"])

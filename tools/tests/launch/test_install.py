@@ -35,7 +35,7 @@ def test_all_stands_where_a_unix_user_looks_for_it(whole, tmp_path):
     assert done(whole.top / "tools/install", "--prefix", to) == (0, f"install: arterial is at {to}/bin/arterial\n", "")
     for page in (TOP / "docs/man").iterdir():
         assert gzip.decompress((to / f"share/man/man1/{page.name}.gz").read_bytes()) == page.read_bytes()
-    assert len(list((to / "share/man/man1").iterdir())) == len(list((TOP / "docs/man").iterdir())) == 9
+    assert len(list((to / "share/man/man1").iterdir())) == len(list((TOP / "docs/man").iterdir())) == 10
     assert sorted(it.name for it in (to / "bin").iterdir()) == ["arterial", *(f"arterial-{it}" for it in TOOLS)]
     for name in (
         "snmp/mibs/ARTERIAL-PROFILE-MIB",
