@@ -10,7 +10,7 @@ import pytest
 
 from .conftest import SECONDS, TOP
 
-TOOLS = ("cabinet", "conform", "cosim", "look", "plan", "street", "sweep", "why")
+TOOLS = ("cabinet", "conform", "cosim", "log", "look", "plan", "street", "sweep", "why")
 COMMIT = {f"GIT_{who}_{what}": "x" for who in ("AUTHOR", "COMMITTER") for what in ("NAME", "EMAIL")}
 
 
