@@ -16,7 +16,7 @@ from streettools.shared.fault import Fault
 
 from .conftest import TOP
 
-CASES = int(os.environ.get("FUZZ_CASES", 10_000))
+CASES = int(os.environ.get("FUZZ_CASES", 2_000))
 HEADERS = [
     "TimeStamp,DeviceId,EventId,Parameter", "SignalID;Timestamp;EventCode;EventParam", "", "time\tcode\tparameter",
     "\ufeffTimeStamp,DeviceId,EventId,Parameter", "# remark", "//", "a,b,c,d", "TimeStamp,EventId", ",,,",
