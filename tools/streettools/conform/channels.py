@@ -4,6 +4,7 @@
 A maker's own channel is a class in a file, named as `--channel box.py:Box`; it is made without arguments.
 """
 
+import abc
 import importlib.util
 import os
 import pathlib
@@ -36,12 +37,12 @@ class Channel(Protocol):
         """Ends the channel."""
 
 
-class Lines:
+class Lines(abc.ABC):
     """A channel of lines: `veh 4 on`, `ped 2`, `preempt 1 off`."""
 
+    @abc.abstractmethod
     def write(self, line: bytes) -> None:
         """Sends a line with its newline."""
-        raise NotImplementedError
 
     def vehicle(self, phase: int, on: bool) -> None:
         """Sends a detector's change."""

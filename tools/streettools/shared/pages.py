@@ -4,6 +4,7 @@ the editor of a plan.
 A page loads nothing from elsewhere, can't be shown in a frame, and only its own scripts may open its web socket
 (`doors`)."""
 
+import abc
 import asyncio
 import contextlib
 import functools
@@ -77,7 +78,7 @@ class Page:
                 await self.socket.send_str(await self.waiting.get())
 
 
-class PageServer:
+class PageServer(abc.ABC):
     """Serves the pages of a site."""
 
     def __init__(self, site: Site, names: tuple[str, ...]) -> None:
@@ -91,13 +92,13 @@ class PageServer:
 
     # what a site does with its pages
 
+    @abc.abstractmethod
     def count(self) -> int:
         """Returns how many pages are open."""
-        raise NotImplementedError
 
+    @abc.abstractmethod
     async def hold(self, socket: web.WebSocketResponse) -> None:
         """Feeds the page at a socket, and does what it asks for, until it goes away."""
-        raise NotImplementedError
 
     def routes(self) -> list[web.RouteDef]:
         """Returns what is served in addition to the page, its files and its socket."""

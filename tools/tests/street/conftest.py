@@ -5,22 +5,19 @@ Where no program is named the built one is taken if it has `live`, else the mode
 
 import os
 import pathlib
-import re
 import signal
 import socket
 import subprocess
 import sys
-import threading
 
 import pytest
 from streettools.shared.oids import CLOCK, CONTROL, COUNTER_OF_CYCLE as COUNTER, VERSION  # noqa: F401
 
+from ..hearing import SECONDS, Heard
+
 TOP = pathlib.Path(__file__).resolve().parents[3]
 sys.dont_write_bytecode = True
 sys.path += [str(TOP), str(TOP / "tools")]
-
-SECONDS = 60
-"""How long anything may take."""
 
 
 def has_live(program):
@@ -39,37 +36,16 @@ PROGRAM = program_here()
 IS_MODEL = PROGRAM == TOP / "model/program"
 
 
-class Running:
+class Running(Heard):
     """A street that runs, and the software that talks with it."""
 
     def __init__(self, words, env=None):
         command = [sys.executable, "-B", TOP / "tools/streettools", "street", "--program", PROGRAM, *map(str, words)]
         self.street = subprocess.Popen(command, stderr=subprocess.PIPE, text=True, cwd=TOP, env=env)
-        self.said, self.more = [], threading.Event()
-        self.reader = threading.Thread(target=self.read)
-        self.reader.start()
+        self.hear(self.street)
         self.port = int(self.told(r"answers? at \S+:(\d+)")[1])
         self.socket = socket.socket(socket.AF_INET, socket.SOCK_DGRAM)
         self.socket.settimeout(SECONDS)
-
-    def read(self):
-        """Keeps what the street says."""
-        for line in self.street.stderr:
-            self.said.append(line.rstrip("\n"))
-            self.more.set()
-        self.more.set()
-
-    def told(self, pattern):
-        """Waits until the street says something, and returns what was found in it."""
-        for _ in range(10 * SECONDS):
-            found = next(filter(None, (re.search(pattern, line) for line in self.said)), None)
-            if found:
-                return found
-            if self.street.poll() is not None and not self.reader.is_alive():
-                break
-            self.more.wait(0.1)
-            self.more.clear()
-        raise AssertionError(f"not told: {pattern}; {self.said}")
 
     def send(self, octets, cabinet=1):
         """Sends a datagram."""

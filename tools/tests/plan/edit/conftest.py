@@ -2,13 +2,12 @@
 
 import importlib.util
 import os
-import re
 import signal
 import subprocess
-import threading
 
 import pytest
 
+from ...hearing import Heard
 from ..conftest import SECONDS, TOP
 
 collect_ignore_glob = (
@@ -63,7 +62,7 @@ def sheet(tmp_path):
     return path
 
 
-class Running:
+class Running(Heard):
     """An editor that runs."""
 
     def __init__(self, program, words):
@@ -72,28 +71,7 @@ class Running:
             [*command, *map(str, words)], stderr=subprocess.PIPE, text=True, cwd=TOP,
             env={**os.environ, "PYTHONPATH": str(TOP / "tools")},
         )  # fmt: skip
-        self.said, self.more = [], threading.Event()
-        self.reader = threading.Thread(target=self.read)
-        self.reader.start()
-
-    def read(self):
-        """Keeps what the editor says."""
-        for line in self.process.stderr:
-            self.said.append(line.rstrip("\n"))
-            self.more.set()
-        self.more.set()
-
-    def told(self, pattern):
-        """Waits until the editor says something, and returns what was found in it."""
-        for _ in range(10 * SECONDS):
-            found = next(filter(None, (re.search(pattern, line) for line in self.said)), None)
-            if found:
-                return found
-            if self.process.poll() is not None and not self.reader.is_alive():
-                break
-            self.more.wait(0.1)
-            self.more.clear()
-        raise AssertionError(f"not told: {pattern}; {self.said}")
+        self.hear(self.process)
 
     def address(self):
         """Returns the address of the page."""
