@@ -81,8 +81,8 @@ pub record HasFault (IsFirst : List ℕ → Refusal → Type 0) (refusal : Refus
   pub first : IsFirst bytes refusal
   pub ended : ends ≡ nothing_left left
 
--- the input is refused, and `ends` is what is left of it. The refusal for the length means that the input is too
--- long; every other refusal names the first fault
+-- the input is refused, and `ends` is what is left of it. Either the input is too long and the refusal says so, or
+-- the refusal names its first fault
 abbrev pub IsRefused : (List ℕ → Refusal → Type 0) → Refusal → Option (List ℕ) → Option (List ℕ) → Type 0
 IsRefused IsFirst refusal left ends =
     (IsLengthLimit refusal × IsTooLong left ends) ⊎ ((IsLengthLimit refusal → ⊥) × HasFault IsFirst refusal left ends)

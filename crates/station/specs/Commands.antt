@@ -61,8 +61,8 @@ ReadsNothing Live = ⊥
 ReadsNothing (Judge terms) = ⊥
 ReadsNothing _ = Unit {0}
 
--- the words are a command that reads an input, and this is a refusal of this input. `run`, `band` and `respond`
--- refuse the whole input; `live` and `judge` refuse its first line
+-- the words are a command that reads an input, and the command refuses its input for this reason. `run`, `band` and
+-- `respond` refuse the whole input; `live` and `judge` refuse its first line
 abbrev pub IsRefusedFor : List (List ℕ) → Refusal → Option (List ℕ) → Option (List ℕ) → Type 0
 IsRefusedFor words refusal left ends =
     (((workers : ℕ) × IsRun words workers) × IsRefused IsFirstFault refusal left ends)

@@ -62,8 +62,8 @@ pub record HasLineFault (IsFirst : List ℕ → Refusal → Type 0) (refusal : R
   pub short : IsShort line
   pub fault : IsFirst line refusal
 
--- the first line is refused. The refusal for the length means that the line is too long; every other refusal names
--- the first fault
+-- the first line is refused. Either the line is too long and the refusal says so, or the refusal names its first
+-- fault
 abbrev pub IsLineRefused : (List ℕ → Refusal → Type 0) → Refusal → Option (List ℕ) → Type 0
 IsLineRefused IsFirst refusal left =
     (IsLengthLimit refusal × IsTooLongLine left) ⊎ ((IsLengthLimit refusal → ⊥) × HasLineFault IsFirst refusal left)
