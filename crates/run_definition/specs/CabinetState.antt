@@ -31,7 +31,7 @@ coming_streams s cab t = streams_of s cab t.cabinet t.answered
 abbrev pub round_acts : ScenarioContent → ℕ → CabinetState → List ℕ → List Act
 round_acts s cab t journal = acts_of (coming_streams s cab t) journal
 
--- the reply of a pass as an answer; no answer if the cabinet sent no reply
+-- the answer that a reply gives; none if the cabinet didn't reply
 abbrev pub answer_of : ℕ → Option (ArrayVec ℕ) → List Answer
 answer_of pass None = []
 answer_of pass (Some octets) = record { pass = pass; octets = octets.items } ∷ []

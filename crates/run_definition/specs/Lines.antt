@@ -31,8 +31,8 @@ abbrev pub load_lines : ℕ → Option Load → List Line
 load_lines cab None = []
 load_lines cab (Some load) = L cab load.id load.result ∷ []
 
--- the lines of replies. Each reply has an L line if a download ended, and then an A line with the answer, or with
--- none
+-- the lines of replies. For each reply there is an L line if a download ended, and then an A line; the A line has a
+-- dash if the cabinet didn't reply
 abbrev pub reply_lines : ℕ → List Reply → List Line
 reply_lines cab [] = []
 reply_lines cab (r ∷ replies) = load_lines cab r.load ++ A cab r.pass r.text ∷ reply_lines cab replies

@@ -1,5 +1,5 @@
--- What the lines of a run say about each cabinet, for any journals: the street is safe, versions are whole,
--- coordination is met, and the tables in force are those of whole downloads that were accepted.
+-- The promise about the lines of a run, for each cabinet and for all possible journals: the street is safe, versions
+-- are whole, coordination is met, and the tables in force are those of whole accepted downloads.
 use Rattle.std.specs.Prelude.{ℕ, ◌≡◌, ◌+◌, List, ◌∷◌, ◌++◌, drop, length, IfSome}
 use Rattle.sig_tables.specs.Decide.{past_at}
 use Rattle.tick_laws.specs.InStep.{EachCoordinated}

@@ -18,7 +18,8 @@ HoldsOctets (Octets octets) = AreOctets octets
 abbrev pub PutOctets : List (Cell × Content) → Type 0
 PutOctets cells = AllByRecursion (λ put. HoldsOctets put.1) cells
 
--- each field of a priority request fits into one octet, except that the two times have two octets each
+-- the number, the class, the level and the phase of a priority request fit into one octet each, and its two times
+-- into two octets each
 pub record IsShortRequest (r : Request) : Type 0 where
   pub number : r.number < 256
   pub class : r.class < 256
