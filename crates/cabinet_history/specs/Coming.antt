@@ -21,6 +21,7 @@ use Rattle.agent.specs.Asks.{ask_of}
 use Rattle.sig_types.specs.Items.{Item, InputTold, Came, Ticked}
 use Rattle.cabinet_history.specs.CabinetHistory.{CabinetHistory}
 
+-- the result of a cabinet history: the history of its controller, and the calls of its download stage
 pub record Coming : Type 0 where
   pub history : History
   pub calls : List Call
@@ -111,7 +112,7 @@ coming_from community opening (item ∷ items) = with_item community item (comin
 abbrev pub coming : CabinetHistory → Coming
 coming cabinet_history = coming_from cabinet_history.community cabinet_history.opening cabinet_history.items
 
--- the history of the controller, by the cabinet history
+-- the history of the controller that results from a cabinet history
 abbrev pub history_of : CabinetHistory → History
 history_of cabinet_history = (coming cabinet_history).history
 

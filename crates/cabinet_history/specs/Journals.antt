@@ -8,7 +8,7 @@ abbrev pub times : ℕ → List ℕ → ℕ
 times p [] = 0
 times p (q ∷ qs) = if p == q then times p qs + 1 else times p qs
 
--- a journal of these streams: it contains each pass as often as the stream of this pass has items
+-- this is a journal of these streams: it contains each pass as often as the stream of this pass has items
 abbrev pub IsMerge : List (List Item) → List ℕ → Type 0
 IsMerge streams journal = (p : ℕ) → times p journal ≡ length (get_or streams p [])
 
