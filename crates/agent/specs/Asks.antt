@@ -25,7 +25,7 @@ abbrev pub direct_wish : Result (List Order) Fault → Wish
 direct_wish (Ok orders) = Direct (record { items = orders })
 direct_wish (Err fault) = Bad fault.status fault.index
 
--- what a Set asks. Its first name decides: begin or id of a download, or else an order
+-- what a Set asks. Its first name decides whether it begins a download, continues a download, or gives orders
 abbrev pub set_wish : Tables → List Bind → Wish
 set_wish t [] = direct_wish (Ok [])
 set_wish t (first ∷ others) =

@@ -12,7 +12,7 @@ abbrev pub shows : Shown → ℕ → Colour → Bool
 shows s p colour = same_colour (colour_of s.frame p) colour
 
 -- the phase is counted in a column: 2 reds (red or red clearance), 3 yellows, 4 greens, 5 don't walks, 6 pedestrian
--- clears, 7 walks, 8 vehicle calls, 9 pedestrian calls (both as they are locked), 10 phase ons (not red)
+-- clears, 7 walks, 8 locked vehicle calls, 9 locked pedestrian calls, 10 phase ons (not red)
 abbrev pub counts_in : Shown → ℕ → ℕ → Bool
 counts_in s column p =
     if column == 2 then shows s p Red || shows s p Clear
@@ -25,8 +25,8 @@ counts_in s column p =
     else if column == 9 then has s.ped_calls p
     else not (shows s p Red)
 
--- a number with one bit for each phase that the test accepts, of this many phases from `first` on; the first phase
--- has the lowest bit
+-- a number with one bit for each of this many phases, from `first` on; the first phase has the lowest bit. A bit is 1
+-- if the test accepts its phase
 abbrev pub bits : (ℕ → Bool) → ℕ → ℕ → ℕ
 bits test zero first = 0
 bits test (suc more) first = (if test first then 1 else 0) + 2 * bits test more (first + 1)

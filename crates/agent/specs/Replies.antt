@@ -66,7 +66,7 @@ with_values m (Ok binds) = within_frame m (response m 0 0 binds)
 with_values m (Err fault) = repeated m fault.status fault.index
 
 -- the status for an answer of the download stage: 3 if the id or the part isn't the expected one, 5 if the step isn't
--- possible now
+-- possible now, otherwise 0
 abbrev pub stage_status : StageAnswer → ℕ
 stage_status WrongToken = 3
 stage_status (WrongPart due) = 3

@@ -53,7 +53,8 @@ sequence_name column sequence ring =
 abbrev pub is_entry : ℕ → ℕ → ℕ → ℕ → ℕ → ℕ → Bool
 is_entry group table entry first second third = group == first && table == second && entry == third
 
--- the name of arcs under `asc`: a scalar, a column with one index, a column with two indices
+-- the name that arcs under `asc` give: the name of a scalar, of a column with one index, or of a column with two
+-- indices
 abbrev pub asc_scalar : ℕ → ℕ → ℕ → Option Name
 asc_scalar group number last =
     if is_entry group number last 4 2 0 then Some (CellName (UnitCell 1))
@@ -82,7 +83,8 @@ asc_name (group ∷ table ∷ entry ∷ column ∷ row ∷ []) = asc_by_one grou
 asc_name (group ∷ table ∷ entry ∷ column ∷ row ∷ sub ∷ []) = asc_by_two group table entry column row sub
 asc_name _ = None
 
--- the name of arcs under `own`: a value that the cabinet shows, a value of the unit, and any scalar
+-- the name that arcs under `own` give: the name of a value that the cabinet shows, of a value of the unit, or of any
+-- scalar
 abbrev pub status_name : ℕ → Option Name
 status_name number =
     if number == 1 then Some Clock
