@@ -40,9 +40,9 @@ abbrev pub flipped : List ℕ → ℕ → ℕ → List ℕ
 flipped octets place octet =
     if nat_lt place (length octets) then set octets place (bit_xor (get_or octets place 0) octet) else octets
 
--- what arrives in the same round of a message with a fault. A lost message doesn't arrive, a repeated message arrives
--- twice, and a damaged or truncated message arrives changed. A late message arrives now and again `by` rounds later;
--- if `by` is 0 it arrives twice now
+-- the copies of a message with a fault that arrive in the same round. A lost message has none, and a repeated message
+-- has two. A damaged or truncated message arrives changed. A late message arrives now and again `by` rounds later; if
+-- `by` is 0 it arrives twice now
 abbrev pub at_once : FaultKind → ℕ → ℕ → List ℕ → List (List ℕ)
 at_once Lose by octet text = []
 at_once Repeat by octet text = text ∷ text ∷ []
@@ -58,12 +58,12 @@ copy_after Late by rounds text = if (by == rounds) && not (by == 0) then text �
 copy_after Flip by rounds text = []
 copy_after Cut by rounds text = []
 
--- what arrives in the same round of a message, with its fault or without a fault
+-- the copies of a message that arrive in the same round, if it has this fault or none
 abbrev pub arriving : Option Fault → List ℕ → List (List ℕ)
 arriving None text = text ∷ []
 arriving (Some f) text = at_once f.kind f.by f.octet text
 
--- the copy of a message that arrives `rounds` rounds later, with its fault or without a fault
+-- the copy of a message that arrives `rounds` rounds later, if it has this fault or none
 abbrev pub copied : Option Fault → ℕ → List ℕ → List (List ℕ)
 copied None rounds text = []
 copied (Some f) rounds text = copy_after f.kind f.by rounds text

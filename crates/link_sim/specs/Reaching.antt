@@ -56,6 +56,6 @@ deliveries s cab polls loads =
     ∷ replicate s.ticks Ticked
     ∷ []
 
--- what reaches the master on a stream in the newest round, of these replies
+-- the replies that the link delivers to the master on a stream in the newest round, with their faults
 abbrev pub returning : ScenarioContent → ℕ → Way → List (List (List ℕ)) → List (List ℕ)
 returning s cab way replies = carried s.faults (line_up cab way) replies

@@ -27,7 +27,7 @@ abbrev pub answers_frame : Option LoadFrame → Message → Bool
 answers_frame None m = false
 answers_frame (Some frame) m = answers frame.id m
 
--- the earlier answer; if there is none, this message, if it is an answer (`now`)
+-- the earlier answer, if there is one; otherwise this message, if it is an answer (`now`)
 abbrev pub or_now : Option Message → Bool → Message → Option Message
 or_now (Some earlier) now m = Some earlier
 or_now None true m = Some m

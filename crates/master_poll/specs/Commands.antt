@@ -31,7 +31,8 @@ pub record Turn : Type 0 where
   pub command : Option Command
   pub frame : Option LoadFrame
 
--- the open command: the command of the last turn. An open command is sent again in each turn
+-- the open command: the command of the last turn. An open command is sent again in each turn, until it is answered or
+-- given up
 abbrev pub open_command : List Turn → Option Command
 open_command [] = None
 open_command (t ∷ past) = t.command
@@ -121,13 +122,13 @@ abbrev pub is_some : {A : Type 0} → Option A → Bool
 is_some None = false
 is_some (Some x) = true
 
--- whether the cabinet is failed after a turn: a command that is answered makes it good, and a command that is given
--- up makes it failed; otherwise nothing changes
+-- whether the cabinet has failed, after a turn: it hasn't if a command is answered, it has if a command is given up,
+-- and otherwise nothing changes
 abbrev pub failed_by : Bool → Option Message → Bool → Bool
 failed_by gave_up (Some m) before = false
 failed_by gave_up None before = if gave_up then true else before
 
--- the cabinet is failed: the last command that ended was given up
+-- the cabinet has failed: its last command that ended was given up
 abbrev pub failed : ℕ → List Turn → Bool
 failed retries [] = false
 failed retries (t ∷ past) = failed_by (gives_up retries past t.polls) (ending past t.polls) (failed retries past)

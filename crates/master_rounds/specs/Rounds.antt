@@ -71,7 +71,7 @@ streams_of s cab c answered =
     ∷ replicate s.ticks Ticked
     ∷ []
 
--- these streams are what the link delivers if the master sends its messages
+-- the streams of the next round are what the link delivers of the messages that the master sends
 abbrev pub AreDelivered : ScenarioContent → ℕ → CabinetContent → List (List Reply) → Type 0
 AreDelivered s cab c answered =
     deliveries s cab (polls_sent s cab c answered) (loads_sent s cab c answered) ≡ streams_of s cab c answered
