@@ -22,7 +22,8 @@ abbrev pub filled : (List ℕ → Data → Data) → Members → Members
 filled fill no_members = no_members
 filled fill (member name d ms) = member name (fill name d) (filled fill ms)
 
--- `now` makes the value `d` of what represents it at this name; at every other name it makes the same as `old`
+-- the value `d` is read at a name, and `standing` represents it until then. At this name `now` makes `d` of
+-- `standing`; at every other name it makes the same as `old`
 pub record Enters (old now : List ℕ → Data → Data) (name : List ℕ) (d standing : Data) : Type 0 where
   pub here : now name standing ≡ d
   pub others : (other : List ℕ) → bytes_eq other name ≡ false → (e : Data) → old other e ≡ now other e

@@ -96,7 +96,7 @@ abbrev pub IsHeld : List ℕ → Option Data → Items → Type 0
 IsHeld name None ds = ds ≡ no_items
 IsHeld name (Some d) ds = d ≡ stand_in name ds
 
--- what was found of a list agrees with its items and with the frame
+-- what was found for a list agrees with its items and with the frame
 pub record FramingStands (found : Found) (text : Written) (last : Reach) (frame : Members) (ds : Items) : Type 0 where
   pub holds : Holds found ds
   pub text_is : written text ≡ inner_text false ds
@@ -107,19 +107,19 @@ pub record FramingStands (found : Found) (text : Written) (last : Reach) (frame 
 abbrev pub HoldsPlace : Data → Items → Type 0
 HoldsPlace d ds = IsHeld (codes "schedule") (get (codes "schedule") d) ds
 
--- what was found of the schedule agrees with these entries and with a master that has these members
+-- what was found for the schedule agrees with these entries and with a master that has these members
 pub record MasterStands (schedule : Listed) (ms : Members) (ds : Items) : Type 0 where
   pub list : name_of schedule.found ≡ codes "schedule"
   pub items : ListsItems schedule ds
   pub held : HoldsPlace (object ms) ds
 
--- what was found of the schedule agrees with these entries and with the master in the frame, if there is one
+-- what was found for the schedule agrees with these entries and with the master in the frame, if there is one
 pub record ScheduleStands (found : Found) (text : Written) (frame : Members) (ds : Items) : Type 0 where
   pub holds : Holds found ds
   pub text_is : written text ≡ inner_text false ds
   pub held : HoldsPlace (held master (object frame)) ds
 
--- what was found of all lists agrees with their items and with the frame
+-- what was found for all lists agrees with their items and with the frame
 pub record AllStand (lists : Lists) (frame : Members) (rows : List ℕ → Items) : Type 0 where
   pub cabinets : FramingStands (Cabinets lists.cabinets) lists.texts.cabinets lists.last frame (rows (codes "cabinets"))
   pub inputs : FramingStands (Inputs lists.events.inputs) lists.texts.inputs lists.last frame (rows (codes "inputs"))
@@ -129,8 +129,8 @@ pub record AllStand (lists : Lists) (frame : Members) (rows : List ℕ → Items
   pub faults : FramingStands (Faults lists.events.faults) lists.texts.faults lists.last frame (rows (codes "faults"))
   pub schedule : ScheduleStands (Schedule lists.schedule) lists.texts.schedule frame (rows (codes "schedule"))
 
--- a value was read at a name, and what represents it was put into the frame: what was found of all lists agrees with
--- their items again
+-- after a value was read at a name and what represents it was put into the frame, what was found for all lists still
+-- agrees with their items
 abbrev pub Puts : Lists → Lists → List ℕ → Data → Data → Type 0
 Puts old new name d standing =
     (frame : Members) → (rows : List ℕ → Items) → AllStand old frame rows

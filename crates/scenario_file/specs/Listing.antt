@@ -63,7 +63,7 @@ pub record ToldLoads (found : List LoadContent) (cabinets : List ℕ) (ds : Item
   pub said : found ≡ each_of (load_of 86400 64) ds
   pub whose : cabinets ≡ each_of (load_cabinet 64) ds
 
--- what was found of a list is what its items describe, and the items have no fault with the widest limits
+-- what was found for a list is what its items describe, and the items have no fault with the widest limits
 abbrev pub ToldCabinets : List CabinetContent → Items → Type 0
 ToldCabinets = ListTold (list_path (codes "cabinets")) any_cabinet (cabinet_of 2) 64
 
@@ -108,7 +108,7 @@ pub record Adds {A : Type 0} (path : List Step) (kind : Kind) (says : Data → A
   pub more : new ≡ old ++ says d ∷ []
   pub few : length new ≤ most
 
--- the version that a cabinet needs: 2 if it has a drift of its clock, otherwise 1
+-- the version that a cabinet requires: 2 if it has a drift of its clock, otherwise 1
 abbrev pub asked_version : Data → ℕ
 asked_version d = if is_some (get gain.name d) || is_some (get lose.name d) then 2 else 1
 
@@ -116,17 +116,18 @@ asked_version d = if is_some (get gain.name d) || is_some (get lose.name d) then
 abbrev pub InRounds : ℕ → ℕ → Data → Type 0
 InRounds rounds cabinets d = (number_at (round 86400) d ≤ rounds) × (number_at (cabinet_number 64) d ≤ cabinets)
 
--- an item needs no more than this: the version for a cabinet, the round and the cabinet for every other item
+-- an item is within these limits: a cabinet by the version that it requires, every other item by its round and its
+-- cabinet
 abbrev pub AsksWithin : Bool → Reach → Data → Type 0
 AsksWithin true reach d = asked_version d ≤ reach.version
 AsksWithin false reach d = InRounds reach.round reach.cabinet d
 
--- the condition holds, or it is that of an entry of a schedule, which needs nothing
+-- the condition holds, or the list is the schedule, whose entries have no limit
 abbrev pub UnlessEntry : Bool → Type 0 → Type 0
 UnlessEntry true P = Unit {0}
 UnlessEntry false P = P
 
--- an item of the list with this name needs no more than this
+-- an item of the list with this name is within these limits
 abbrev pub Within : List ℕ → Reach → Data → Type 0
 Within name reach d = UnlessEntry (bytes_eq name (codes "schedule")) (AsksWithin (bytes_eq name (codes "cabinets")) reach d)
 
@@ -135,14 +136,14 @@ abbrev pub AllOf : (Data → Type 0) → Items → Type 0
 AllOf P no_items = Unit {0}
 AllOf P (item d ds) = P d × AllOf P ds
 
--- each of the three numbers is unchanged or larger
+-- each of the three limits is unchanged or higher
 pub record ReachGrows (old new : Reach) : Type 0 where
   pub round : old.round ≤ new.round
   pub cabinet : old.cabinet ≤ new.cabinet
   pub version : old.version ≤ new.version
 
--- what is known of a list with these items: what they describe, the text between its brackets, and the most that they
--- need
+-- what is known of a list with these items: what they describe, the text between its brackets, and limits that all of
+-- them keep
 pub record Lists (listed : Listed) (ds : Items) : Type 0 where
   pub holds : Holds listed.found ds
   pub text : written listed.text ≡ inner_text false ds

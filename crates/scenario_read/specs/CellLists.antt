@@ -83,7 +83,7 @@ octets_fits most (object ms) = Wrong
 abbrev pub hex_text : ℕ → Kind
 hex_text most path d = fault_at path (octets_fits most d)
 
--- how a value fits as content, if this content is allowed
+-- how a value fits as the content of a cell that allows this content
 abbrev pub content_fits : Allowed → Data → Fit
 content_fits (Numbers least most) d = whole_fits least most d
 content_fits Lists d = octets_fits 16 d

@@ -160,7 +160,7 @@ fault_of round_count cabinet_count d = record {
   octet = number_at octet d;
 }
 
--- the version of the form of the scenario
+-- the version of the scenario's format
 abbrev pub version_number : Data → ℕ
 version_number d = number_at version d
 

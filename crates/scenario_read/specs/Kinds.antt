@@ -106,7 +106,7 @@ rare least most path d = fault_at path (rare_fits least most d)
 abbrev pub text : ℕ → ℕ → Kind
 text least most path d = fault_at path (text_fits least most d)
 
--- the kind of these words
+-- the kind of texts that are one of these words
 abbrev pub word : List (List ℕ) → Kind
 word words path d = fault_at path (word_fits words d)
 

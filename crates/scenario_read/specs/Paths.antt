@@ -1,4 +1,5 @@
--- The path of a value in a scenario: names of members and places in lists, from the top. And the text of a path.
+-- The path of a value in a scenario, and its text. A path goes from the top through names of members and places in
+-- lists.
 use Rattle.std.specs.Prelude.{ℕ, List, [], ◌∷◌, ◌++◌, codes, decimal}
 
 -- a step of a path: the name of a member, or a place in a list, counted from 0

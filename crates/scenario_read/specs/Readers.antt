@@ -82,7 +82,7 @@ names_faults known path (object ms) = unknown_faults known path ms
 abbrev pub load_cabinets : List LoadItem → List ℕ
 load_cabinets loads = map (λ load. load.cabinet) loads
 
--- what was read for the whole run is what the value describes, in a scenario of this version
+-- what was read about the whole run is what the value describes, in a scenario of this version
 pub record SaysSetup (setup : Setup) (version : ℕ) (d : Data) : Type 0 where
   pub rounds : setup.rounds ≡ number_at rounds d
   pub ticks : setup.ticks ≡ number_at ticks d
@@ -90,7 +90,7 @@ pub record SaysSetup (setup : Setup) (version : ℕ) (d : Data) : Type 0 where
   pub cabinets : map cabinet_content setup.cabinets.items ≡ list_in (cabinet_of version) (held (cabinets version) d)
   pub master : master_content setup.master ≡ master_of (held master d)
 
--- what was read for the rounds is what the value describes, for this many rounds and cabinets
+-- what was read about the rounds is what the value describes, in a scenario with this many rounds and cabinets
 pub record SaysEvents (events : Events) (rounds cabinets : ℕ) (d : Data) : Type 0 where
   pub inputs : events.inputs.items ≡ events_at inputs input_of rounds cabinets d
   pub loads : map load_content events.loads.items ≡ events_at loads load_of rounds cabinets d

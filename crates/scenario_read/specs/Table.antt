@@ -97,7 +97,7 @@ schedule = optional (codes "schedule") (list_of 0 1000 (object_of entry_shape)) 
 abbrev pub master_shape : Shape
 master_shape = record { fields = clock ∷ poll_every ∷ clock_every ∷ pattern_every ∷ retries ∷ schedule ∷ []; alternatives = [] }
 
--- the round and the cabinet of an item, which have these limits
+-- the fields for the round and the cabinet of an item; the scenario has this many of each
 abbrev pub round : ℕ → Field
 round rounds = needed_whole (codes "round") 1 rounds
 
@@ -270,6 +270,7 @@ master = optional (codes "master") (object_of master_shape) (object no_members)
 abbrev pub optional_list : List ℕ → ℕ → Kind → Field
 optional_list name most kind = optional name (list_of 0 most kind) (array no_items)
 
+-- the lists of the scenario
 abbrev pub inputs : ℕ → ℕ → Field
 inputs rounds cabinets = optional_list (codes "inputs") 1000000 (object_of (input_shape rounds cabinets))
 
