@@ -38,6 +38,7 @@ first_early round_of place last [] = None
 first_early round_of place last (x ∷ xs) =
     if nat_lt (round_of x) last then Some place else first_early round_of (place + 1) (round_of x) xs
 
+-- the first load, or the first priority request, that isn't in the order of rounds
 abbrev pub early_load : ScenarioContent → Option ℕ
 early_load s = first_early (λ l. l.round) 0 0 s.loads
 

@@ -51,7 +51,7 @@ abbrev pub of_rounds : {A : Type 0} → (A → ℕ) → ℕ → List A → List 
 of_rounds round_of rounds xs = filter (λ x. nat_le (round_of x) rounds) xs
 
 -- the scenario that results from a session with these rounds. It has the items of the base scenario for these rounds
--- only. The inputs and messages of the session follow its own
+-- only. The inputs and messages of the session come after those of the base scenario
 abbrev pub resulting : ScenarioContent → List (List Step) → List ℕ → ScenarioContent
 resulting s rounds compact = record {
   version = s.version;
@@ -95,7 +95,7 @@ abbrev pub before_parts : Line → List (List Line) → List (List Line)
 before_parts line [] = (line ∷ []) ∷ []
 before_parts line (part ∷ parts) = (line ∷ part) ∷ parts
 
--- the parts of a trace: the lines before the first round, the lines of each round, and the Z line
+-- the parts of these lines: the lines before the first round, the lines of each round, and the Z line
 abbrev pub parts_of : List Line → List (List Line)
 parts_of [] = [] ∷ []
 parts_of (line ∷ lines) = if begins_part line then [] ∷ before_parts line (parts_of lines) else before_parts line (parts_of lines)

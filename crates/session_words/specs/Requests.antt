@@ -56,7 +56,8 @@ few_octets (Err error) = None
 abbrev pub octets_of : List ℕ → Option (List ℕ)
 octets_of word = few_octets (decode_of word)
 
--- the request with what was found in a word; if nothing was found, the reason why the request isn't accepted
+-- the request that `go_on` makes of what was found in a word; if nothing was found, `untaken` is the reason why the
+-- request isn't accepted
 abbrev pub asked_for : {A : Type 0} → Untaken → Option A → (A → Result Request Untaken) → Result Request Untaken
 asked_for untaken None go_on = Err untaken
 asked_for untaken (Some found) go_on = go_on found
