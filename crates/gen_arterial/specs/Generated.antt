@@ -98,7 +98,7 @@ round_faults seed cabinets round place =
 abbrev pub place_behind : ℕ → ℕ → ℕ
 place_behind seed place = if loses_poll seed place then place + 2 else place + 1
 
--- the first place of the numbers of the round after this many rounds
+-- the place of the first number of the round after this many rounds
 abbrev pub round_place : ℕ → ℕ → ℕ → ℕ
 round_place seed cabinets zero = 4 * cabinets
 round_place seed cabinets (suc done) = place_behind seed (round_place seed cabinets done + 3 * cabinets)

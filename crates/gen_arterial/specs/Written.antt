@@ -124,8 +124,8 @@ generated seed cabinets rounds = record {
 abbrev pub generated_text : ℕ → ℕ → ℕ → List ℕ
 generated_text seed cabinets rounds = compact_text (scenario_value seed cabinets rounds) ++ 10 ∷ []
 
--- a scenario can be generated for these numbers: 1 to 64 cabinets, 1 to 86,400 rounds, and at most 100,000 if they
--- are multiplied
+-- a scenario can be generated for these numbers: 1 to 64 cabinets and 1 to 86,400 rounds, with cabinets times rounds
+-- at most 100,000
 pub record CanMake (cabinets rounds : ℕ) : Type 0 where
   pub some : 1 ≤ cabinets
   pub few : cabinets ≤ 64

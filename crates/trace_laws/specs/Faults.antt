@@ -65,8 +65,8 @@ pub data Departs (s : ScenarioContent) (before : List Line) : List ℕ → ℕ �
   Differs : (line : Line) → (left : List ℕ) → (rule : ℕ) → (IsTraceOf s before → ⊥) → IsLine line → (MayFollow s before line → ⊥)
       → IsRule s before line rule → Departs s before (line_text line ++ left) rule
 
--- the text after the first line has `n` lines of a prefix of a trace, and no run continues them with the bytes after
--- these; `rule` is the rule of this fault
+-- after the first line the text has `n` lines with which a run begins. No run continues with the bytes after them,
+-- and `rule` is the rule that they break
 pub record FaultOf (s : ScenarioContent) (text : List ℕ) (n rule : ℕ) : Type 0 where
   pub before : List Line
   pub left : List ℕ

@@ -24,7 +24,7 @@ SameButJournals a b =
 abbrev pub DueIsDetermined : Type 0
 DueIsDetermined = (s : ScenarioContent) (before : List Line) (a b : Line) → MayFollow s before a → MayFollow s before b → SameButJournals a b
 
--- for all journals of the first rounds, there is a run that begins with the lines of these rounds
+-- if these are journals of the first rounds, a run begins with the lines of these rounds
 abbrev pub RoundsAreFronts : Type 0
 RoundsAreFronts = (s : ScenarioContent) (journals : List (List (List ℕ))) → BeginJournals s journals → IsFrontOf s (front_lines s journals)
 
@@ -45,7 +45,7 @@ FaultsAreDetermined = (text : List ℕ) (line rule at also : ℕ) → FirstFault
 abbrev pub TracesHaveNoFault : Type 0
 TracesHaveNoFault = (text : List ℕ) (line rule : ℕ) → IsCheckable text → IsTrace text → FirstFault text line rule → ⊥
 
--- no text is without both: it is a trace, or it has a first fault
+-- each text is a trace or has a first fault: no text is without both
 abbrev pub NothingElse : Type 0
 NothingElse = (text : List ℕ) → (IsTrace text → ⊥) → ((line rule : ℕ) → FirstFault text line rule → ⊥) → ⊥
 
