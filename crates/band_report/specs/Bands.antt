@@ -40,8 +40,8 @@ pub record IsBand (n r : ℕ) (street : List Passage) (cycle start width : ℕ) 
   pub fewer : width < cycle
   pub all_open : (tick : ℕ) → tick < width → is_open n r street (start + tick) ≡ true
 
--- the widest band: no band is wider, and no band of the same width starts earlier. `before` is the first cabinet
--- whose window lacks the time just before the band, and `after` the first whose window lacks the time just after it
+-- the widest band: no band is wider, and no band of the same width starts earlier. `before` is the first cabinet that
+-- a vehicle just before the band doesn't pass in its window; `after` is the same for a vehicle just after the band
 pub record IsGreatest (n r : ℕ) (street : List Passage) (cycle : ℕ) (band : Band) : Type 0 where
   pub is : IsBand n r street cycle band.start band.width
   pub widest : (start width : ℕ) → IsBand n r street cycle start width → width ≤ band.width

@@ -14,7 +14,8 @@ pub record Member : Type 0 where
   pub number : ℕ
   pub tables : Tables
 
--- those of these cabinets that are in the section; the first of the list has this number
+-- the cabinets of this list that are in the section, each with its number; the first cabinet of the list has the
+-- number `number`
 abbrev pub members_from : ℕ → ℕ → List CabinetContent → List Member
 members_from section number [] = []
 members_from section number (c ∷ more) =
@@ -66,9 +67,8 @@ abbrev pub first_cycle : ℕ → List Member → ℕ
 first_cycle pattern [] = 0
 first_cycle pattern (m ∷ more) = cycle_time m.tables pattern
 
--- the first reason why there can be no band along these cabinets, with this many travel times, if there is a reason.
--- There is no cabinet; a cabinet doesn't define the pattern; the cycles differ; or the number of travel times is
--- wrong
+-- the first of these reasons why there can be no band along these cabinets: there is no cabinet, a cabinet doesn't
+-- define the pattern, the cycles differ, or the number of travel times is wrong. None if no reason applies
 abbrev pub misfit_along : ℕ → ℕ → List Member → Option Misfit
 misfit_along pattern legs [] = Some NoCabinet
 misfit_along pattern legs (m ∷ more) =
@@ -76,7 +76,7 @@ misfit_along pattern legs (m ∷ more) =
     if not (all_have_cycle pattern (cycle_time m.tables pattern) (m ∷ more)) then Some Cycles else
     if legs == length more then None else Some Legs
 
--- the first reason why there can be no band along a section, if there is a reason
+-- the first reason why there can be no band along a section; None if no reason applies
 abbrev pub misfit_of : List CabinetContent → ℕ → ℕ → ℕ → Option Misfit
 misfit_of cabinets section pattern legs = misfit_along pattern legs (members cabinets section)
 

@@ -57,6 +57,6 @@ abbrev pub greens_to : (ℕ → Bool) → ℕ → List Bool
 greens_to shows zero = shows 0 ∷ []
 greens_to shows (suc n) = shows (suc n) ∷ greens_to shows n
 
--- what the overlap shows at a tick, if a parent is green at these ticks
+-- what the overlap shows at a tick; `shows` says at which ticks a parent is green
 abbrev pub overlap_at : Timing → (ℕ → Bool) → ℕ → Colour
 overlap_at t shows tick = last_colour (colours t (greens_to shows tick))

@@ -31,8 +31,8 @@ abbrev pub Rise : ℕ → List (ℕ × Frame) → ℕ → Type 0
 Rise first [] end = first ≤ end
 Rise first (f ∷ frames) end = (first ≤ f.0) × Rise (f.0 + 1) frames end
 
--- the displays of a cabinet after it ran this many ticks: the first is at tick 0, and the ticks increase up to at
--- most the last tick
+-- these are the displays of a cabinet that ran this many ticks: the first is at tick 0, their ticks increase, and
+-- none is after the last tick
 abbrev pub AreFrames : List (ℕ × Frame) → ℕ → Type 0
 AreFrames [] ticks = ⊥
 AreFrames (f ∷ frames) ticks = (f.0 ≡ 0) × Rise 1 frames (ticks + 1)

@@ -25,6 +25,6 @@ changes_to shown (suc n) = changes_to shown n ++ line_where (shown n) (suc n) (s
 unfoldable pub end_line : ℕ → List ℕ
 end_line ticks = line_of (codes "Z" ∷ decimal ticks ∷ [])
 
--- the text of an overlap over this many ticks, if a parent is green at these ticks
+-- the text of an overlap over this many ticks; `shows` says at which ticks a parent is green
 abbrev pub overlap_text : Timing → (ℕ → Bool) → ℕ → List ℕ
 overlap_text t shows ticks = changes_to (overlap_at t shows) ticks ++ end_line ticks
