@@ -143,8 +143,8 @@ count_of n (m ∷ more) = (if m == n then 1 else 0) + count_of n more
 abbrev pub full_faults : List ℕ → List Step → ℕ → List Cause
 full_faults earlier path cabinet = fault_at path (if nat_lt (count_of cabinet earlier) 100 then Fits else Beyond)
 
-abbrev pub load : ℕ → ℕ → List ℕ → Kind
 -- the kind of loads, by the cabinets of the earlier loads; the load itself is checked after its fields
+abbrev pub load : ℕ → ℕ → List ℕ → Kind
 load rounds cabinets earlier path d = object_of (load_shape rounds cabinets) path d ++ full_faults earlier path (load_cabinet cabinets d)
 
 -- the fields of a priority request, or of the cancel of one
