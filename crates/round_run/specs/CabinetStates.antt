@@ -46,8 +46,8 @@ pub record HaveRun (s : ScenarioContent) (ts : List CabinetState) (journals : Li
 abbrev pub no_journals : List CabinetState → List (List ℕ)
 no_journals ts = map (λ t. []) ts
 
--- these acts of a round have come to the book of a cabinet with this state before the round; one pass brings all
--- ticks
+-- the book of a cabinet, which has this state before the round, has taken these acts of the round; one pass brings
+-- all ticks
 pub record HasCome (t : CabinetState) (acts : List Act) (b : Book) : Type 0 where
   pub stands : BookStands b t.cabinet_history
   pub acts_are : acts_in b ≡ acts

@@ -49,7 +49,7 @@ pub record Finishes (old new : Book) : Type 0 where
   pub one : IsOnePart new
   pub ticks : ticks_by_end new ≡ ticks_by_end old
 
--- the ticks of a book's round are shared in that many parts, and nothing else of it is changed
+-- the ticks of a book's round are shared in this many parts, and nothing else of the book has changed
 pub record IsShared (parts : ℕ) (old new : Book) : Type 0 where
   pub parts_are : (k : ℕ) → k < 4 → left_of new (4 + k) ≡ get_or (shares parts (length (get_or (streams_in old) 4 []))) k 0
   pub shares : Shares old new
