@@ -1,5 +1,5 @@
--- The lists of a scenario that are searched for in one pass over its text: either the cabinets, or the lists of the
--- rounds. And what is known about each.
+-- The lists of a scenario that one reading of its text searches for, and what is known about each: either the
+-- cabinets, or the lists of the rounds.
 use Rattle.std.specs.Prelude.{ℕ, ◌≡◌, ◌||◌, Bool, true, false, if◌then◌else◌, List, Option, Some, None, is_some, bytes_eq}
 use Rattle.serde_json.specs.Data.{Data}
 use Rattle.serde_json.specs.Find.{get}

@@ -44,7 +44,8 @@ Grows old new name d =
     → (now : List ℕ → Items) × (put name d (with_lists rows (members_view old.frame.entries)) ≡ with_lists now (members_view new.frame.entries))
     × AllStand new.lists (members_view new.frame.entries) now × MembersSorted (members_view new.frame.entries)
 
--- these members of a master were read, and the ones of which no more is to come are those that are kept, with these entries as the schedule
+-- these members of a master were read, and those whose names aren't to be read again are stored, with these entries
+-- as the schedule
 pub record MasterReadSoFar (reading : MasterReading) (ms : Members) : Type 0 where
   pub entries : Items
   pub is : without (is_left reading.left) ms ≡ filled (scheduled entries) (members_view reading.master.members.entries)

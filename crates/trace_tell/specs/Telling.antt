@@ -2,9 +2,10 @@
 use Rattle.std.specs.Prelude.{ℕ, ◌≡◌, ◌<◌, ◌⊎◌, List, [], ◌∷◌, ◌++◌, Result, Ok, Err}
 use Rattle.trace_text.specs.declared.lines.Line.{Line}
 
--- what holds for every teller. none: no lines are taken by doing nothing. more: some lines and then others are taken together.
--- front: if it stops in some lines, it stops in these with others after them. later: if it takes some lines and stops in the next,
--- it stops in both together. short: if memory is refused, it may stop before any line.
+-- the laws of every teller. `none`: doing nothing takes no lines. `more`: taking some lines and then others takes
+-- them together. `front`: if the teller stops in some lines, it also stops in these lines with others after them.
+-- `later`: if it takes some lines and stops in the next lines, it stops in both together. `short`: if memory runs
+-- out, it may stop before any line
 pub record TellerLaws {T F : Type 0} (told : T → T → List Line → Type 0) (stopped : T → T → F → List Line → Type 0) (out_of_memory : F) : Type 0 where
   pub none : (a : T) → told a a []
   pub more : (a b c : T) (xs ys : List Line) → told a b xs → told b c ys → told a c (xs ++ ys)

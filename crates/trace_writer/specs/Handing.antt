@@ -10,9 +10,9 @@ use Rattle.trace_writer.specs.Bytes.{AppendsFront, AppendsUpTo, Puts, PutsFront,
 abbrev pub held_by : Writer → List ℕ
 held_by w = w.held.items
 
--- the text was handed over after what was held, and of both all is written but what is held now; or it stopped short,
--- and a prefix of both is written, and not all of it. A write fault comes only where the sink's count of faults rises,
--- which never falls; where the count is exact, it is as it was once all is handed over.
+-- the text was handed over after the bytes held back, and all of these are written except the bytes that are held
+-- back now; or the writer stopped, and a proper prefix is written. If a write fails, the sink's count of faults
+-- rises; the count never falls. An exact count is unchanged if everything was handed over.
 pub record HandsOver {K : Type 0} (written : K → Option (List ℕ)) (faults : K → ℕ) (exact : Bool) (result : Result (Unit {0}) Stop) (old new : Writer)
     (from to : K) (text : List ℕ) : Type 0 where
   pub whole : OnOk result (Puts (written from) (written to) (held_by old) (held_by new) text)
@@ -29,7 +29,8 @@ pub record Writes {K : Type 0} (written : K → Option (List ℕ)) (faults : K �
   pub counts : OnOk result (Stays exact (faults from) (faults to))
   pub kept : faults from ≤ faults to
 
--- no round is left where all was handed over; and where some are, nothing was written beyond what was held and the text of the closed ones
+-- if everything was handed over, no round is left. If rounds are left, nothing was written after the bytes held back
+-- and the text of the closed rounds
 pub record HandsWithin {K : Type 0} (written : K → Option (List ℕ)) (result : Result (Unit {0}) Stop) (old : Writer) (from to : K) (left : ℕ) (text : List ℕ) : Type 0 where
   pub none : OnOk result (left ≡ 0)
   pub up_to : 0 < left → PutsUpTo (written from) (written to) (held_by old) text
