@@ -110,12 +110,13 @@ own_name (group ∷ number ∷ last ∷ []) = if last == 0 then own_scalar group
 own_name (group ∷ table ∷ entry ∷ number ∷ []) = if is_entry group table entry 4 3 1 && is_between number 1 10 then Some (RequestState number) else None
 own_name _ = None
 
--- the name of the arcs after the prefix `own`, if there are any
+-- the name of the arcs after the prefix `own`; None if there is no such prefix
 abbrev pub name_under_own : Option (List ℕ) → Option Name
 name_under_own (Some rest) = own_name rest
 name_under_own None = None
 
--- the name of the arcs after the prefix `asc` if there are any, otherwise after the prefix `own`
+-- the name of these arcs: by the arcs after the prefix `asc`, or, without this prefix, by those after the prefix
+-- `own`
 abbrev pub name_under : Option (List ℕ) → List ℕ → Option Name
 name_under (Some rest) arcs = asc_name rest
 name_under None arcs = name_under_own (under own arcs)
