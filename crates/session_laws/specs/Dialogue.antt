@@ -31,8 +31,8 @@ answers_text (answer ∷ answers) = answer_text answer ++ answers_text answers
 abbrev pub session_text : ScenarioContent → List (List ℕ) → List ℕ
 session_text s lines = answers_text (answers s lines)
 
--- the place of the first item whose round is before the round of the preceding item. The first item has this place,
--- and `last` is the round that precedes it
+-- the place of the first item whose round is before the round of the preceding item. Places are counted from `place`;
+-- for the first item, `last` is the preceding round
 abbrev pub first_early : {A : Type 0} → (A → ℕ) → ℕ → ℕ → List A → Option ℕ
 first_early round_of place last [] = None
 first_early round_of place last (x ∷ xs) =
