@@ -22,7 +22,7 @@ flags_of d (p ∷ ps) = if is_of d p then p.on ∷ flags_of d ps else flags_of d
 abbrev pub flags : Detector → List Pulse → ℕ → List Bool
 flags d ps j = flags_of d (in_round j ps)
 
--- the state after these pulses: that of the last pulse; without pulses the state before
+-- the state after these pulses: that of the last pulse; if there are no pulses, the state before
 abbrev pub after : Bool → List Bool → Bool
 after state [] = state
 after state (on ∷ more) = after on more

@@ -15,7 +15,7 @@ use Rattle.field_read.specs.declared.respond.Respond.{Respond}
 use Rattle.field_read.specs.declared.named.Field.{Field}
 use Rattle.field_read.specs.Table.{detector, delay, extend, no_activity, max_presence, erratic, up, down, pattern, section, base, steps, period, sections, respond, bank, pulses}
 
--- the rule of a section
+-- the rule of a section: its base pattern and its steps
 pub record RuleContent : Type 0 where
   pub section : ℕ
   pub base : ℕ
