@@ -25,7 +25,7 @@ load_words cab id (Ok version) = codes "L" ∷ decimal cab ∷ decimal id ∷ co
 load_words cab id (Err broken) =
     codes "L" ∷ decimal cab ∷ decimal id ∷ codes "refused" ∷ decimal broken.rule ∷ decimal broken.row ∷ []
 
--- the words of a line; a scenario's text counts as one, whatever is in it
+-- the words of a line; the text of a scenario is one word, even if it has spaces
 abbrev pub line_words : Line → List (List ℕ)
 line_words (S json) = codes "S" ∷ json ∷ []
 line_words (F cab tick veh ped mode counter target version) =
