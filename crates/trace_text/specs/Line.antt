@@ -1,7 +1,6 @@
 -- The text of each line of a trace.
 use Rattle.std.specs.Prelude.{ℕ, List, [], ◌∷◌, map, codes, decimal, Result, Ok, Err}
 use Rattle.std.specs.Fmt.{signed_decimal}
-use Rattle.sig_types.specs.declared.frame.Frame.{Frame}
 use Rattle.sig_types.specs.declared.notes.Broken.{Broken}
 use Rattle.sig_types.specs.declared.notes.MasterNote.{MasterNote}
 use Rattle.sig_types.specs.declared.notes.MasterNote.TheVariants as note
