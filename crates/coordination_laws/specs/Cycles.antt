@@ -10,8 +10,8 @@ use Rattle.sig_tables.specs.Clock.{is_each}
 use Rattle.sig_tables.specs.Slots.{cycle_time}
 use Rattle.sig_tables.specs.Past.{Moment}
 use Rattle.sig_tables.specs.Looking.{last_frame}
-use Rattle.offset_laws.specs.Stepping.{KeepsLimits, to_zero}
-use Rattle.offset_laws.specs.Drifting.{Drift as Step, Even, Gains, Loses, drifted, target_drifted}
+use Rattle.coordination_laws.specs.Stepping.{KeepsLimits, to_zero}
+use Rattle.coordination_laws.specs.Drifting.{Drift as Step, Even, Gains, Loses, drifted, target_drifted}
 use Rattle.plan_facts.specs.Disturbances.{Drift, IsSlow, drift_gap, drifts, quiet_for}
 use Rattle.plan_facts.specs.Bounds.{longest_cycle, cycles_for_one}
 use Rattle.plan_facts.specs.Meets.{first_zero, has_zero, holds_since, can_follow}

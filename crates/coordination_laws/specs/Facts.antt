@@ -16,7 +16,7 @@ use Rattle.sig_tables.specs.Past.{Moment}
 use Rattle.sig_tables.specs.Looking.{last_frame}
 use Rattle.coordination_laws.specs.Search.{AnyMoment}
 use Rattle.tick_laws.specs.Zero.{HoldsPair, PlanServes, TimesServe, InTime, ZeroHolds}
-use Rattle.offset_laws.specs.Drifting.{moved}
+use Rattle.coordination_laws.specs.Drifting.{moved}
 use Rattle.plan_facts.specs.Disturbances.{Drift, drifts, is_disturbed, quiet_for}
 use Rattle.plan_facts.specs.Greatest.{pickup_bound}
 use Rattle.plan_facts.specs.Bounds.{zero_bound}

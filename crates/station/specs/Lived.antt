@@ -5,8 +5,8 @@ use Rattle.trace_writer.specs.Bytes.{AppendsFront}
 use Rattle.scenario_data.specs.declared.refusal.Refusal.{Refusal}
 use Rattle.scenario_data.specs.Content.{ScenarioContent}
 use Rattle.scenario_read.specs.Answers.{IsScenario, IsFirstFault}
-use Rattle.session_laws.specs.Dialogue.{first_line, requests_in, session_text, IsByRounds, IsOrderFault}
-use Rattle.session_laws.specs.Laws.{SessionIsRun}
+use Rattle.run_definition.specs.SessionDialogue.{first_line, requests_in, session_text, IsByRounds, IsOrderFault}
+use Rattle.run_definition.specs.SessionLaws.{SessionIsRun}
 use Rattle.station.specs.declared.status.Status.{Status}
 use Rattle.station.specs.declared.status.Status.TheVariants.{Done, Scenario, ReadFault, WriteFault, NoMemory}
 use Rattle.station.specs.Io.{Io}

@@ -5,9 +5,9 @@ use Rattle.trace_writer.specs.Bytes.{AppendsFront}
 use Rattle.scenario_data.specs.Content.{ScenarioContent}
 use Rattle.session_words.specs.Lines.{first_line, whole_lines}
 use Rattle.session_words.specs.Unread.{behind_told, GivesLine, HasNoLine}
-use Rattle.session_laws.specs.Session.{SessionHistory, opened_session, is_over}
-use Rattle.session_laws.specs.Answers.{Answer, Lines, answer_to, answers_from, end_of_input_lines, next_session, open_lines}
-use Rattle.session_laws.specs.Dialogue.{answer_text, answers_text, requests_in, session_text}
+use Rattle.run_definition.specs.Session.{SessionHistory, opened_session, is_over}
+use Rattle.run_definition.specs.SessionAnswers.{Answer, Lines, answer_to, answers_from, end_of_input_lines, next_session, open_lines}
+use Rattle.run_definition.specs.SessionDialogue.{answer_text, answers_text, requests_in, session_text}
 use Rattle.live_session.specs.declared.session.Session.{Session}
 use Rattle.live_session.specs.Standing.{SessionStands}
 use Rattle.station.specs.declared.status.Status.{Status}
