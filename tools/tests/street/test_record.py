@@ -117,8 +117,10 @@ def test_each_limit_of_scenarios_and_traces_is_one(tmp_path, name, count):
     recorder.began({"version": 1, "rounds": 9, "ticks": 1, "cabinets": [{}]})
     if name == "frames":
         recorder.record.added[name] = [{}] * count
+    elif name == "size":
+        recorder.record.lines.size = count
     else:
-        setattr(recorder.record, name, count)
+        recorder.record.added_size = count
     assert recorder.is_full()
     recorder.requests.close()
 
