@@ -17,8 +17,8 @@ EMPTY = (NULL, NO_SUCH_OBJECT, NO_SUCH_INSTANCE, END_OF_VIEW)
 MOST_ARCS, ARC_END = 128, 1 << 32
 INTEGER_OCTETS, LENGTH_OCTETS = 4, 4
 SHORT, MOST_KEPT = 32, 8192
-"""The octets, or the arcs, of the longest name that is kept once it was read or written, and how many are kept: managers
-ask for the same names again and again."""
+"""The octets, or the arcs, of the longest name that is kept once it was read or written, and how many are kept:
+managers ask for the same names again and again."""
 
 Arcs = tuple[int, ...]
 
