@@ -1,5 +1,5 @@
--- What a session is worth: it is a run, by its own journals, of the scenario that results; and no answer depends on a
--- later request.
+-- What is promised of a session: it is a run of the resulting scenario with its own journals, and no answer depends
+-- on a later request.
 use Rattle.std.specs.Prelude.{◌≡◌, ℕ, List, ◌++◌, length}
 use Rattle.scenario_data.specs.Content.{ScenarioContent}
 use Rattle.run_definition.specs.Lines.{rest_lines, run_lines}
@@ -8,10 +8,10 @@ use Rattle.run_definition.specs.Safe.{AllKept}
 use Rattle.session_laws.specs.Answers.{Answer, answers, answers_so_far, rounds_by}
 use Rattle.session_laws.specs.Record.{resulting, session_journals, lines_in, in_trace_order}
 
--- the answers of a session whose requests are these are the run of the scenario that results, for any compact text: its
--- journals are journals of that scenario; the lines of the answers, in the order of a trace, are those of the run after
--- its S line; and by the lines of the run every street is safe, versions are whole, tables are those of whole accepted
--- downloads, and coordination is met
+-- the session with these requests is a run of the resulting scenario, for any compact text of it. The session's
+-- journals are journals of this scenario. The lines of the answers, in the order of a trace, are the lines of the run
+-- after its S line. By the lines of the run every street is safe, versions are whole, the tables in force are those
+-- of whole accepted downloads, and coordination is met
 pub record SessionIsRun (s : ScenarioContent) (lines : List (List ℕ)) (compact : List ℕ) : Type 0 where
   pub journals : AreJournals (resulting s (rounds_by s lines) compact) (session_journals s (rounds_by s lines))
   pub told : in_trace_order (length s.cabinets) (lines_in (answers s lines))
@@ -19,6 +19,6 @@ pub record SessionIsRun (s : ScenarioContent) (lines : List (List ℕ)) (compact
   pub kept : AllKept (resulting s (rounds_by s lines) compact) (session_journals s (rounds_by s lines))
       (run_lines (resulting s (rounds_by s lines) compact) (session_journals s (rounds_by s lines)))
 
--- whatever is asked later, the answers to the scenario and to these requests are first
+-- regardless of the requests after them, the first answers are those to the scenario and to these requests
 abbrev pub NeedsNoMore : ScenarioContent → List (List ℕ) → List (List ℕ) → Type 0
 NeedsNoMore s lines more = (later : List Answer) × (answers s (lines ++ more) ≡ answers_so_far s lines ++ later)
