@@ -52,7 +52,7 @@ class Sets(Hearer):
 
     def heard(self, request: bytes | None, answer: Answer) -> None:
         self.record.answered(request, answer)
-        self.record.lines.clear()
+        self.record.lines.cut(0)
 
     def size(self) -> int:
         """Returns about how many bytes the messages have in a scenario."""

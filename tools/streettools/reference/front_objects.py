@@ -79,6 +79,7 @@ def index(name: str, last: int) -> Named:
 
 PEOPLE, REPORT = ASC + (2, 7, 1), ASC + (2, 5)
 NO_TEST = "0: detectors aren't tested."
+BY_USER = "alarms that a user turns on (docs/STREET.md)."
 COLUMNS = {
     2: ("Options", "147: it calls, extends the green, and is counted: volume and occupancy."),
     4: ("CallPhase", "The phase that the detector calls: that of its number."), 5: ("SwitchPhase", "0: none."),
@@ -204,9 +205,9 @@ UNIT: dict[Arcs, Named] = {
     ),
     ASC + (3, 5): asc("unitControlStatus", "INTEGER { systemControl(2) }", "Always systemControl."),
     ASC + (3, 6): asc("unitFlashStatus", "INTEGER { notFlash(2), automatic(3) }", "Whether the cabinet is in flash."),
-    ASC + (3, 7): asc("unitAlarmStatus2", BYTE, "32 on the way to the offset."),
-    ASC + (3, 8): asc("unitAlarmStatus1", BYTE, "128 coordinated, 64 free, 32 flash."),
-    ASC + (3, 9): asc("shortAlarmStatus", BYTE, "1 preempt, 2 flash."),
+    ASC + (3, 7): asc("unitAlarmStatus2", BYTE, f"32 on the way to the offset; 1 to 16: {BY_USER}"),
+    ASC + (3, 8): asc("unitAlarmStatus1", BYTE, f"128 coordinated, 64 free, 32 flash; 1 to 32: {BY_USER}"),
+    ASC + (3, 9): asc("shortAlarmStatus", BYTE, f"1 preempt, 2 flash; 2 to 128: {BY_USER}"),
 }  # fmt: skip
 COORD: dict[Arcs, Named] = {
     ASC + (4, 1): asc("coordOperationalMode", BYTE, "0, automatic: systemPatternControl decides."),

@@ -4,6 +4,7 @@ The reader takes what these documents allow and nothing else: tags of one octet;
 octets do; numbers in the fewest octets and in their range; names of at most 128 arcs. Else it raises `Malformed`.
 """
 
+import functools
 from typing import NamedTuple
 
 INTEGER, OCTETS, NULL, NAME, LIST = 0x02, 0x04, 0x05, 0x06, 0x30
@@ -15,6 +16,9 @@ UNSIGNED = {COUNTER: 1 << 32, GAUGE: 1 << 32, TIME_TICKS: 1 << 32, COUNTER64: 1 
 EMPTY = (NULL, NO_SUCH_OBJECT, NO_SUCH_INSTANCE, END_OF_VIEW)
 MOST_ARCS, ARC_END = 128, 1 << 32
 INTEGER_OCTETS, LENGTH_OCTETS = 4, 4
+SHORT, MOST_KEPT = 32, 8192
+"""The octets, or the arcs, of the longest name that is kept once it was read or written, and how many are kept:
+managers ask for the same names again and again."""
 
 Arcs = tuple[int, ...]
 
@@ -100,6 +104,17 @@ def octets_for(value: int) -> int:
 
 def arcs_of(content: bytes) -> Arcs:
     """Returns the arcs of a name from its content: each in seven bits an octet, without a leading 128, below 2^32."""
+    return kept_arcs(content) if len(content) <= SHORT else arcs_in(content)
+
+
+@functools.lru_cache(MOST_KEPT)
+def kept_arcs(content: bytes) -> Arcs:
+    """Returns the arcs of a short name."""
+    return arcs_in(content)
+
+
+def arcs_in(content: bytes) -> Arcs:
+    """Reads the arcs of a name."""
     found, value, is_open = [], 0, False
     for octet in content:
         if octet == 0x80 and not is_open:
@@ -169,4 +184,10 @@ def name_content(arcs: Arcs) -> bytes:
 
 def name_of(arcs: Arcs) -> bytes:
     """Returns the octets of the OBJECT IDENTIFIER of at least two arcs."""
+    return kept_name(arcs) if len(arcs) <= SHORT else field(NAME, name_content(arcs))
+
+
+@functools.lru_cache(MOST_KEPT)
+def kept_name(arcs: Arcs) -> bytes:
+    """Returns the octets of a short name."""
     return field(NAME, name_content(arcs))

@@ -6,6 +6,7 @@ of a trace after the S line of the scenario that results.
 
 import functools
 import json
+import weakref
 from collections import defaultdict
 from collections.abc import Iterator
 from typing import Any, NamedTuple
@@ -23,6 +24,8 @@ FULL = 0.9
 """Which part of what a scenario leaves free is used before a session ends for its record's sake."""
 OF_ITEM = 60
 """How many bytes more an item has in a scenario than in its request."""
+IN_MEMORY, PIECE = 1 << 20, 1 << 16
+"""How many bytes of lines are kept in memory, and how many are read back at once."""
 
 Runs = list[tuple[int, int]]
 """A journal in runs of a pass and a number."""
@@ -115,19 +118,53 @@ def read_again(request: bytes) -> Read:
     return Read(Brought(item["cabinet"], INPUTS, 1, True), "inputs", item)
 
 
+class Lines:
+    """Lines in the order in which they are added. Up to 1 MiB of them is in memory; if there are more, all are in a
+    file without a name, in a folder or in the usual place of temporary files."""
+
+    def __init__(self, folder: str | None = None) -> None:
+        import tempfile  # takes a while
+
+        self.size = 0
+        """The bytes of the lines, each with its newline."""
+        self.file = tempfile.SpooledTemporaryFile(IN_MEMORY, dir=folder)
+        weakref.finalize(self, self.file.close)
+
+    def add(self, lines: list[bytes]) -> None:
+        """Adds lines."""
+        text = b"".join(line + b"\n" for line in lines)
+        self.file.write(text)
+        self.size += len(text)
+
+    def cut(self, size: int) -> None:
+        """Leaves only the first bytes, which are whole lines."""
+        self.file.seek(size)
+        self.file.truncate()
+        self.size = size
+
+    def pieces(self) -> Iterator[bytes]:
+        """Yields the text of all lines in pieces."""
+        self.file.seek(0)
+        while piece := self.file.read(PIECE):
+            yield piece
+        self.file.seek(self.size)
+
+
 class SessionRecord:
     """The lines of a session in the order of a trace, and what the session added to its scenario. A Get on the stream
     of priority changes nothing: where reads aren't kept it is left out, with its A line and its item of the journal."""
 
-    def __init__(self, scenario: dict[str, Any], keeps_reads: bool = True) -> None:
+    def __init__(self, scenario: dict[str, Any], keeps_reads: bool = True, folder: str | None = None) -> None:
         self.scenario = scenario
         self.keeps_reads = keeps_reads
         self.number = 0
         self.is_over = False
         self.added: dict[str, list[dict[str, Any]]] = {"inputs": [], "frames": []}
-        self.lines: list[bytes] = []
-        self.size = self.added_size = 0
-        """The bytes of the lines, and about how many bytes the added part of the scenario has."""
+        self.lines = Lines(folder)
+        self.round_at = 0
+        """Where the line that begins the round is: how many bytes are before it."""
+        self.added_size = 0
+        """About how many bytes the added part of the scenario has."""
         self.journals: dict[int, bytes] = {}
         self.events: dict[int, list[bytes]] = defaultdict(list)
         self.brought: list[Brought] = []
@@ -169,16 +206,12 @@ class SessionRecord:
         elif kind in (b"R", b"Z"):
             self.close_round()
             self.number, self.is_over = int(second), kind == b"Z"
-            self.add([line])
+            self.round_at = self.lines.size
+            self.lines.add([line])
         elif kind == b"M" or self.number == 0:
-            self.add([line])
+            self.lines.add([line])
         else:
             self.events[int(second)].append(line)
-
-    def add(self, lines: list[bytes]) -> None:
-        """Adds lines to the trace."""
-        self.lines += lines
-        self.size += sum(map(len, lines)) + len(lines)
 
     def close_round(self) -> None:
         """Puts the lines of the round that ends in the order of a trace."""
@@ -188,7 +221,7 @@ class SessionRecord:
             lines.append(self.less(cabinet) if cabinet in dropped else journal)
             if cabinet in self.events:
                 lines += self.events[cabinet]
-        self.add(lines)
+        self.lines.add(lines)
         self.journals, self.events, self.brought = {}, defaultdict(list), []
 
     def less(self, cabinet: int) -> bytes:
@@ -201,14 +234,11 @@ class SessionRecord:
 
     def cut(self) -> None:
         """Ends the record with the last whole round, as if the session ended there; what follows is left out."""
-        while self.lines and not self.lines[-1].startswith(b"R "):
-            self.lines.pop()
-        if self.lines:
-            self.lines.pop()
+        self.lines.cut(self.round_at)
         self.number -= 1
         for name, items in self.added.items():
             self.added[name] = [item for item in items if item["round"] <= self.number]
-        self.lines.append(b"Z %d" % self.number)
+        self.lines.add([b"Z %d" % self.number])
         self.is_over = True
 
     def resulting(self) -> dict[str, Any]:
@@ -222,10 +252,9 @@ class SessionRecord:
         return made
 
     def trace(self) -> Iterator[bytes]:
-        """Yields the lines of the trace of a session that is over, each with its newline."""
+        """Yields the text of the trace of a session that is over, in pieces."""
         yield b"S " + compact(self.resulting()) + b"\n"
-        for line in self.lines:
-            yield line + b"\n"
+        yield from self.lines.pieces()
 
 
 def trace_of_session(dialogue: bytes, output: bytes, keeps_reads: bool = True) -> bytes:
@@ -254,5 +283,5 @@ class Room:
             len(record.added["inputs"]) >= self.inputs
             or len(record.added["frames"]) >= self.frames
             or record.added_size >= self.scenario
-            or record.size + record.added_size >= self.octets
+            or record.lines.size + record.added_size >= self.octets
         )

@@ -19,6 +19,8 @@ from ..shared.given import content_of
 from ..shared.program import NoProgram, answering, ran
 from ..shared.status import Status
 from . import ports, words
+from .acts import Acts
+from .commands import obeyed, opened as opened_pipe
 from .line import Line, Passed, line_of
 from .messages import Messages
 from .ntcip.front import Fronts
@@ -210,24 +212,45 @@ class Asked:
     line: Line | None
 
 
-def wire_of(asked: Asked, stack: contextlib.AsyncExitStack) -> ports.Wire | None:
-    """Returns what is between the ports and managers, None if there is nothing. The file of messages is closed at the
-    end."""
-    if asked.line is None and not asked.given.messages:
-        return None
+def messages_of(asked: Asked, stack: contextlib.AsyncExitStack) -> Messages | None:
+    """Returns the file of messages, None if none is asked for. It is closed at the end."""
     if not asked.given.messages:
-        return ports.Wire(asked.line)
+        return None
     messages = Messages(pathlib.Path(asked.given.messages), lambda: asked.street.session.taken)
     messages.places = [(place.address, place.port) for place in map(ports.place_of, asked.sockets)]
     stack.callback(messages.close)
+    return messages
+
+
+def wire_of(asked: Asked, messages: Messages | None) -> ports.Wire | None:
+    """Returns what is between the ports and managers, None if there is nothing."""
+    if messages is None:
+        return ports.Wire(asked.line) if asked.line else None
+
+    add = messages.add
 
     def keep(it: Passed) -> None:
         try:
-            messages.add(it)
+            add(it)
         except OSError as fault:
             asked.street.fail(fault)
 
     return ports.Wire(asked.line, keep)
+
+
+def obey(asked: Asked, acts: Acts, stack: contextlib.AsyncExitStack) -> None:
+    """Begins to obey the lines of the pipe of commands, if one is named."""
+    if not asked.given.commands:
+        return
+    pipe = stack.enter_context(opened_pipe(asked.given.commands))
+    task = asyncio.create_task(obeyed(pipe, acts, len(asked.street.scenario["cabinets"]), say))
+
+    def is_over(done: asyncio.Task[None]) -> None:
+        if not done.cancelled() and (fault := done.exception()):
+            asked.street.fail(Fault(f"the pipe of commands failed: {fault}", Status.FILE))
+
+    task.add_done_callback(is_over)
+    stack.callback(task.cancel)
 
 
 async def served(asked: Asked) -> None:
@@ -239,12 +262,16 @@ async def served(asked: Asked) -> None:
     for number in (signal.SIGINT, signal.SIGTERM):
         loop.add_signal_handler(number, street.end)
     async with contextlib.AsyncExitStack() as stack:
-        wire = wire_of(asked, stack)
+        messages = messages_of(asked, stack)
+        wire = wire_of(asked, messages)
+        acts = Acts(street, asked.line or Line([], 0), messages.note if messages else lambda *_: None)
+        obey(asked, acts, stack)
         asks: ports.Asked = fronts.datagram if fronts else street.datagram
         for transport in await ports.listening(sockets, asked.panel.hearing(asks) if asked.panel else asks, wire):
             stack.callback(transport.close)
         tell_places(street, [ports.place_of(port) for port in sockets])
         if asked.panel is not None:
+            asked.panel.panel.acts, asked.panel.panel.has_alarms = acts, bool(given.front)
             await asked.panel.open(street, stack)
         if given.bind and not ipaddress.ip_address(given.bind).is_loopback:
             say(OPEN.format(given.bind))
@@ -286,6 +313,8 @@ def main(arguments: list[str] | None = None) -> int:
         line = line_of(pathlib.Path(given.line), len(street.scenario["cabinets"])) if given.line else None
         if opened:
             line = opened.panel.line = line or Line([], 0)
+        elif given.commands:
+            line = line or Line([], 0)
         wanted = ports.places(words.first_place(given), len(street.scenario["cabinets"]), given.addresses is not None)
         with ports.opened(wanted) as sockets:
             asyncio.run(served(Asked(given, street, requests, sockets, opened, line)))

@@ -71,10 +71,24 @@ class Line:
         """Whether the rules count; the panel turns them off and on."""
         self.hanging: set[int] = set()
         """The cabinets that get no message and answer none."""
+        self.silent: dict[int, tuple[float, str]] = {}
+        """Further cabinets like these: until when, and by which word a record of messages has it."""
 
     def is_perfect(self) -> bool:
         """Tells whether nothing happens to any message."""
-        return not self.hanging and not (self.is_on and self.rules)
+        return not self.hanging and not self.silent and not (self.is_on and self.rules)
+
+    def silence(self, cabinet: int, seconds: float, word: str) -> None:
+        """Lets a cabinet get no message and answer none for some seconds."""
+        self.silent[cabinet] = (self.now() + seconds, word)
+
+    def silent_word(self, cabinet: int) -> str | None:
+        """Returns why a cabinet gets no message now, None if it does."""
+        until, word = self.silent.get(cabinet, (0.0, ""))
+        if word and self.now() >= until:
+            del self.silent[cabinet]
+            word = ""
+        return word or ("hangs" if cabinet in self.hanging else None)
 
     def rule(self, cabinet: int, way: str) -> Rule | None:
         """Returns the last rule that is for a cabinet and a direction."""
@@ -82,8 +96,8 @@ class Line:
 
     def passed(self, cabinet: int, way: str, octets: bytes) -> list[Copy]:
         """Returns the copies of a message that arrive: none, one or two. One that doesn't has infinite seconds."""
-        if cabinet in self.hanging:
-            return [Copy(float("inf"), octets, ("hangs",))]
+        if word := self.silent_word(cabinet):
+            return [Copy(float("inf"), octets, (word,))]
         rule = self.rule(cabinet, way) if self.is_on else None
         if rule is None:
             return [Copy(0.0, octets, ())]

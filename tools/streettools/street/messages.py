@@ -68,21 +68,34 @@ class Messages:
     def write(self, it: Passed) -> None:
         """Writes a datagram. A capture has those that arrive."""
         if not self.is_capture:
-            self.file.write(json.dumps(self.row(it), separators=(",", ":")).encode() + b"\n")
+            self.add_row(self.row(it))
         elif it.arrives:
             here = self.places[it.cabinet - 1]
             octets = frame(it.manager, here, it.octets) if it.way == IN else frame(here, it.manager, it.octets)
             now = time.time_ns() // 1000
             self.file.write(struct.pack("<IIII", now // 1_000_000, now % 1_000_000, len(octets), len(octets)) + octets)
 
+    def add_row(self, row: dict[str, Any]) -> None:
+        """Adds a line of JSON."""
+        self.file.write(json.dumps(row, separators=(",", ":")).encode() + b"\n")
+        self.file.flush()
+
+    def when(self) -> dict[str, Any]:
+        """Returns the time and the tick of now."""
+        now = datetime.datetime.now(datetime.timezone.utc)
+        return {"time": now.isoformat(timespec="microseconds").replace("+00:00", "Z"), "tick": self.ticks()}
+
     def row(self, it: Passed) -> dict[str, Any]:
         """Returns what is written of a datagram."""
-        now = datetime.datetime.now(datetime.timezone.utc)
         return {
-            "time": now.isoformat(timespec="microseconds").replace("+00:00", "Z"), "tick": self.ticks(),
-            "cabinet": it.cabinet, "peer": f"{it.manager[0]}:{it.manager[1]}", "way": it.way,
+            **self.when(), "cabinet": it.cabinet, "peer": f"{it.manager[0]}:{it.manager[1]}", "way": it.way,
             "line": [*it.words], "arrives": it.arrives, "octets": it.octets.hex(), "words": text_of(it.octets, it.way),
         }  # fmt: skip
+
+    def note(self, cabinet: int, act: str) -> None:
+        """Adds what a user has done to a cabinet; a capture has no place for it."""
+        if not self.is_capture:
+            self.add_row({**self.when(), "cabinet": cabinet, "act": act})
 
     def close(self) -> None:
         """Closes the file. What couldn't be written is known by then."""

@@ -1,7 +1,8 @@
 """Records of a street: the trace of each session, and its requests, with which the street can be replayed.
 
 The trace is at the named path when the session is over, the requests are next to it while it runs. Reads are left out
-of both, since they change nothing. Only their owner can read them.
+of both, since they change nothing. Only their owner can read them. Memory holds the last lines of a session; the others
+are in a file without a name, in the folder of the record.
 """
 
 import errno
@@ -129,7 +130,8 @@ class Recorder(Hearer):
         self.part += 1
         if self.part == self.first:
             self.put_later_aside()
-        self.record, self.room = SessionRecord(scenario, keeps_reads=False), Room(scenario)
+        folder = str(self.path.absolute().parent)
+        self.record, self.room = SessionRecord(scenario, keeps_reads=False, folder=folder), Room(scenario)
         self.requests = Requests(requests_beside(self.trace_path()))
         self.requests.add(scenario_line(scenario))
         self.requests.write()
@@ -141,7 +143,9 @@ class Recorder(Hearer):
                 put_aside(path)
 
     def heard(self, request: bytes | None, answer: Answer) -> None:
-        if self.record.answered(request, answer) and request is not None:
+        with files.blamed(self.trace_path()):
+            is_kept = self.record.answered(request, answer)
+        if is_kept and request is not None:
             self.requests.add(request)
 
     def is_full(self) -> bool:

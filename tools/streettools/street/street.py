@@ -100,6 +100,10 @@ class Street:
         """Whether the next session begins with what the cabinets have."""
         self.lost_at = 0
         """The last session that began without what the cabinets had in the one before it, counted from 0."""
+        self.is_restarting = False
+        """Whether the session changes as soon as it can, as a user has asked for."""
+        self.alarms: dict[int, set[str]] = {}
+        """The alarms that a user has turned on, by cabinet (`acts`)."""
         self.ended = asyncio.Event()
         self.woken = asyncio.Event()
         self.renewals = 0
@@ -205,7 +209,7 @@ class Street:
             if self.session.is_over:
                 if not await self.renewed():
                     return
-            elif not self.ticks_left() or any(hearer.is_full() for hearer in self.hearers):
+            elif self.is_restarting or not self.ticks_left() or any(hearer.is_full() for hearer in self.hearers):
                 await self.change()
             else:
                 await self.pause(self.pace.wait())
@@ -240,6 +244,7 @@ class Street:
     async def change(self) -> None:
         """Ends a session, so that the next one continues with what the cabinets have; messages wait meanwhile. If that
         can't be read, the next one begins as the first did."""
+        self.is_restarting = False
         self.changing = asyncio.get_running_loop().create_future()
         while self.turns:
             await asyncio.sleep(0.001)
@@ -248,6 +253,11 @@ class Street:
             self.is_carried = True
         with contextlib.suppress(Over):
             await self.session.finish()
+
+    def restart(self) -> None:
+        """Lets all cabinets start up again, with the tables and the rest that a new session carries over."""
+        self.is_restarting = True
+        self.wake()
 
     async def gate(self) -> None:
         """Waits while a session changes."""

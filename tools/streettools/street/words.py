@@ -142,6 +142,10 @@ def parser() -> argparse.ArgumentParser:
         help="write every message to this file: lines of JSON, or a capture if its name ends in .pcap",
     )  # fmt: skip
     words.add_argument(
+        "--commands", metavar="PIPE",
+        help="obey lines of this named pipe, which mkfifo makes: reboot 3 10, hang 3 60, alarm 3 stopTime on",
+    )  # fmt: skip
+    words.add_argument(
         "--as", dest="front", choices=["ntcip1202"],
         help="answer more than the proved profile does (docs/SNMP-CONFORMANCE.md)",
     )

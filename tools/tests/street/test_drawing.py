@@ -1,10 +1,14 @@
 """The panel's drawing of an intersection, its preempts, and its cards, in a real browser."""
 
+import os
+import time
+
 import pytest
 
 from streettools.street.panel.layout import street_facts
 from streettools.street.panel.state import PanelState
 
+from .conftest import SECONDS
 from .test_agents import written
 from .test_panel import SHEET, TRAIN, awaited, browser, download, panel, text_of  # noqa: F401
 
@@ -142,3 +146,32 @@ def test_the_page_fits_a_telephone(street, browser, tmp_path, width):  # noqa: F
         browser.get(f"{address}{place}")
         awaited(browser, "cards" if not place else "box-2", "red|1R")
         assert browser.execute_script("return document.documentElement.scrollWidth") <= width
+
+
+def test_a_cabinet_is_rebooted_and_its_alarms_are_switched(panel, browser, tmp_path):  # noqa: F811
+    running, address = panel("--speed", 5, "--as", "ntcip1202")
+    browser.get(f"{address}#1")
+    awaited(browser, "head-2", "G")
+    alarm = browser.find_element("id", "alarm-stopTime")
+    alarm.click()
+    pressed(browser, "alarm-stopTime", "true")
+    if shots := os.environ.get("SHOTS"):
+        browser.execute_script("document.getElementById('alarm-part').scrollIntoView()")
+        browser.save_screenshot(f"{shots}/alarms.png")
+    browser.find_element("id", "reboot").click()
+    # the new session begins with start-up, in which all are red; power restart is on, and messages get no answer
+    awaited(browser, "head-2", "R")
+    pressed(browser, "alarm-powerRestart", "true")
+    pressed(browser, "hang", "true")
+    browser.find_element("id", "alarm-stopTime").click()
+    pressed(browser, "alarm-stopTime", "false")
+    awaited(browser, "head-2", "G")
+    assert running.end() == 0
+
+
+def pressed(browser, name, wanted):  # noqa: F811
+    """Waits until a button of the page is pressed, or isn't."""
+    until = time.monotonic() + SECONDS
+    while browser.find_element("id", name).get_attribute("aria-pressed") != wanted:
+        assert time.monotonic() < until, f"{name} is not {wanted}"
+        time.sleep(0.1)

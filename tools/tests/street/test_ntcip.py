@@ -71,6 +71,40 @@ def test_a_missing_object_is_told_in_its_place(tool):
     assert "noSuchName" in " ".join(tool("snmpget", "1", "1.3.6.1.2.1.99.0"))
 
 
+class OneReply:
+    """A street whose cabinet gives one reply; it keeps what the cabinet was asked."""
+
+    def __init__(self, reply):
+        self.reply, self.asked = reply, []
+
+    async def message(self, cabinet, octets):
+        self.asked.append(octets)
+        return self.reply
+
+
+def test_a_get_of_the_cabinets_objects_in_version_2c_is_its_reply_with_another_version():
+    """By hand: `02 01 00` is version 1 and `02 01 01` version 2c (RFC 1901); all else stays, octet for octet."""
+    asked = snmp.Message(snmp.V2C, b"public", snmp.GET, 7, 0, 0, [snmp.Binding(oids.VERSION, ber.Field(ber.NULL, b""))])
+    answer = asked._replace(version=snmp.V1, kind=snmp.RESPONSE,
+                            bindings=[snmp.Binding(oids.VERSION, ber.Field(ber.INTEGER, b"\x05"))])  # fmt: skip
+    street = OneReply(snmp.octets_of(answer))
+    front = SimpleNamespace(street=street, number=1)
+    octets = snmp.octets_of(asked)
+    found = asyncio.run(Cabinet.got_by_cabinet(front, asked, octets))
+    assert street.asked == [octets.replace(b"\x02\x01\x01\x04", b"\x02\x01\x00\x04", 1)]
+    assert found == street.reply.replace(b"\x02\x01\x00\x04", b"\x02\x01\x01\x04", 1)
+    # an error, another object, a value, silence: the front carries it out itself
+    street.reply = snmp.octets_of(answer._replace(first=2, second=1))
+    assert asyncio.run(Cabinet.got_by_cabinet(front, asked, octets)) is None
+    street.reply = None
+    assert asyncio.run(Cabinet.got_by_cabinet(front, asked, octets)) is None
+    for name, value in ((oids.GLOBAL_TIME, ber.Field(ber.NULL, b"")), (oids.VERSION, ber.Field(ber.INTEGER, b"\x01"))):
+        other = asked._replace(bindings=[snmp.Binding(name, value)])
+        street.asked.clear()
+        assert asyncio.run(Cabinet.got_by_cabinet(front, other, snmp.octets_of(other))) is None
+        assert street.asked == []
+
+
 def test_a_walk_by_getbulk_meets_each_instance_once_in_order(tool):
     lines = tool("snmpbulkwalk", "2c", "-Cr40", "1.3.6.1")
     names = [tuple(map(int, line.split(" ")[0].split("."))) for line in lines if " = No more" not in line]

@@ -4,6 +4,7 @@ import asyncio
 import json
 import subprocess
 import time
+import tracemalloc
 
 import pytest
 from model.promises.judging import broken_promises
@@ -48,6 +49,24 @@ def test_a_record_is_a_trace_with_every_set_and_no_read(street, tmp_path):
     scenario = json.loads(trace.split(b"\n", 1)[0][2:])
     assert [item["hex"] for item in scenario["frames"]] == [set_clock(n, 1000 * n).hex() for n in range(3, 30, 3)]
     assert trace.count(b"\nA ") == 9
+
+
+def test_the_lines_of_a_long_record_are_not_in_memory(tmp_path):
+    """30,000 rounds of a second have lines of more than 1 MiB; they stay in a file, and the trace has them all."""
+    recorder = Recorder(tmp_path / "long.trace")
+    recorder.began({"version": 1, "rounds": 86_400, "ticks": 10, "cabinets": [{}]})
+    recorder.heard(None, [b"R 1"])
+    tracemalloc.start()
+    for number in range(2, 30_002):
+        recorder.heard(b"tick 10", [b"F 1 %d %b %b F 0 0 0" % (10 * number, b"R" * 16, b"D" * 16), b"J 1 4*10",
+                                    b"R %d" % number])  # fmt: skip
+    held = tracemalloc.get_traced_memory()[0]
+    tracemalloc.stop()
+    assert held < 1_500_000 < recorder.record.lines.size
+    recorder.ended(None)
+    lines = (tmp_path / "long.trace").read_bytes().splitlines()
+    assert (len(lines), lines[1], lines[-2:]) == (1 + 3 * 30_000 + 1, b"R 1", [lines[-2], b"Z 30000"])
+    assert sorted(it.name for it in tmp_path.iterdir()) == ["long.dialogue", "long.trace"]
 
 
 def test_a_record_that_happens_again_gives_the_same_cabinet(street, tmp_path):
@@ -117,8 +136,10 @@ def test_each_limit_of_scenarios_and_traces_is_one(tmp_path, name, count):
     recorder.began({"version": 1, "rounds": 9, "ticks": 1, "cabinets": [{}]})
     if name == "frames":
         recorder.record.added[name] = [{}] * count
+    elif name == "size":
+        recorder.record.lines.size = count
     else:
-        setattr(recorder.record, name, count)
+        recorder.record.added_size = count
     assert recorder.is_full()
     recorder.requests.close()
 

@@ -10,7 +10,7 @@ from ...shared.ber import (
 )  # fmt: skip
 from ...shared.cells import PATTERNS
 from ...shared.oids import CLOCK, CONTROL, ENTRIES, GLOBAL_TIME, PREEMPT_STATE, TRANSACTION, VEH_CALL
-from ...shared.snmp import BULK, GET, GET_NEXT, SET, V1, Binding, Message
+from ...shared.snmp import BULK, GET, GET_NEXT, SET, V1, V2C, Binding, Message, head_of
 from ..known import DAY
 from ..street import LONGEST, NOBODY, Manager, Street
 from .judging import has_type, is_of_a_download, is_of_a_table, of_the_cabinet
@@ -18,8 +18,8 @@ from .managers import Copies, Managers
 from .objects import OBJECTS, ORDER, TYPES, WRITABLE
 from .order import InOrder
 from .pdus import (
-    GEN_ERR, MOST_OCTETS, NO_SUCH_NAME, NOT_WRITABLE, WRONG_TYPE, WRONG_VALUE, Fault, asked_of, cut_reply, reply,
-    response, whole,
+    GEN_ERR, MOST_OCTETS, NO_SUCH_NAME, NOT_WRITABLE, WRONG_TYPE, WRONG_VALUE, Fault, asked_of, asks_nothing_else,
+    cut_reply, in_version, reply, response, whole,
 )  # fmt: skip
 from .reads import Front
 from .shown import Shown
@@ -94,7 +94,7 @@ class Cabinet:
         """Returns the reply to a message that is carried out here."""
         try:
             if asked.kind == GET:
-                return reply(asked, await self.got(asked))
+                return await self.got_by_cabinet(asked, octets) or reply(asked, await self.got(asked))
             if asked.kind == GET_NEXT:
                 return reply(asked, await self.got_next(asked, asked.bindings))
             if asked.kind == BULK:
@@ -105,6 +105,18 @@ class Cabinet:
             return reply(asked, asked.bindings, fault.status, fault.index)
 
     # what is read
+
+    async def got_by_cabinet(self, asked: Message, octets: bytes) -> bytes | None:
+        """Returns the cabinet's own reply to a Get of version 2c, with the version of the message. None if the message
+        names an object of the front or more than the cabinet takes, or if the cabinet doesn't answer without error."""
+        if asked.version == V1 or len(asked.bindings) > MOST_BINDS or not asks_nothing_else(asked):
+            return None
+        if any(it.arcs in OBJECTS for it in asked.bindings) or not (as_v1 := in_version(octets, V2C, V1)):
+            return None
+        answer = await self.street.message(self.number, as_v1)
+        if answer is None or head_of(answer)[0].first:
+            return None
+        return in_version(answer, V1, V2C)
 
     async def got(self, asked: Message) -> list[Binding]:
         """Returns the values of objects. In version 1 a missing object is a fault; in later versions it is reported in

@@ -13,6 +13,7 @@ from ...shared.oids import (
 )  # fmt: skip
 from ...shared.tables import ALL
 from ...shared.version import VERSION
+from ..acts import SHORT, SHORT_ALSO, UNIT_1, UNIT_2, bits
 from .judging import columns
 from .operation import operation
 from .pdus import text, whole
@@ -53,22 +54,31 @@ async def flash_status(front: Front) -> Field:
     return whole(3 if mode == FLASH else 2)
 
 
+def user_alarms(front: Front) -> set[str]:
+    """Returns the alarms of the cabinet that a user has turned on."""
+    return front.street.alarms.get(front.cabinet, set())
+
+
 async def alarms(front: Front) -> Field:
-    """Returns unitAlarmStatus1: coordination is active (128), free (64), flash (32)."""
+    """Returns unitAlarmStatus1: coordination is active (128), free (64), flash (32), and what a user has set."""
     (mode,) = await front.side.numbers(MODE)
-    return whole(ALARMS.get(mode, 0))
+    return whole(ALARMS.get(mode, 0) | bits(user_alarms(front), UNIT_1))
 
 
 async def more_alarms(front: Front) -> Field:
-    """Returns unitAlarmStatus2: on the way to the offset (32)."""
+    """Returns unitAlarmStatus2: on the way to the offset (32), and what a user has set."""
     (mode,) = await front.side.numbers(MODE)
-    return whole(32 if mode == SEEK else 0)
+    return whole((32 if mode == SEEK else 0) | bits(user_alarms(front), UNIT_2))
 
 
 async def short_alarms(front: Front) -> Field:
-    """Returns shortAlarmStatus: preempt (1), flash (2)."""
+    """Returns shortAlarmStatus: preempt (1), flash (2), and what a user has set."""
     (mode,) = await front.side.numbers(MODE)
-    return whole(1 if mode in PREEMPTED else 2 if mode == FLASH else 0)
+    own = 1 if mode in PREEMPTED else 2 if mode == FLASH else 0
+    flash_or_stop = [bit for name, bit in SHORT_ALSO.items() if name in user_alarms(front)]
+    for bit in flash_or_stop:
+        own |= bit
+    return whole(own | bits(user_alarms(front), SHORT))
 
 
 async def free_status(front: Front) -> Field:

@@ -1,7 +1,11 @@
 """What the front answers to a message: values, the statuses of both versions, the Response."""
 
-from ...shared.ber import INTEGER, OCTETS, Field, Malformed, number_content
-from ...shared.snmp import BULK, GET, GET_NEXT, RESPONSE, SET, V1, V2C, Binding, Message, message_of, octets_of
+import functools
+
+from ...shared.ber import INTEGER, NULL, OCTETS, Field, Malformed, integer, length_at, number_content
+from ...shared.snmp import (
+    BULK, GET, GET_NEXT, RESPONSE, SET, V1, V2C, Binding, Message, bindings_of, head_of, octets_of,
+)  # fmt: skip
 
 ASKING = (GET, GET_NEXT, SET, BULK)
 TOO_BIG, NO_SUCH_NAME, BAD_VALUE, GEN_ERR = 1, 2, 3, 5
@@ -15,6 +19,10 @@ OLDER = {
 }  # fmt: skip
 """The statuses of version 1 for those of version 2c, by RFC 3584."""
 MOST_OCTETS = 1472
+MOST_KEPT, SHORT = 512, 512
+"""How many lists of bindings are kept once they were read, and the octets of the longest: managers ask for the same
+objects again and again."""
+VERSIONS = {version: integer(version) for version in (V1, V2C)}
 
 
 class Fault(Exception):
@@ -38,10 +46,29 @@ def text(octets: bytes) -> Field:
 def asked_of(octets: bytes) -> Message | None:
     """Returns the message that asks for something; None if octets are none in versions 1 and 2c."""
     try:
-        found = message_of(octets)
+        head, pairs = head_of(octets)
+        bindings = list(kept_bindings(pairs)) if len(pairs) <= SHORT else bindings_of(pairs)
     except Malformed:
         return None
-    return found if found.kind in ASKING else None
+    return head._replace(bindings=bindings) if head.kind in ASKING else None
+
+
+@functools.lru_cache(MOST_KEPT)
+def kept_bindings(pairs: bytes) -> tuple[Binding, ...]:
+    """Returns the bindings that follow each other in octets."""
+    return tuple(bindings_of(pairs))
+
+
+def in_version(octets: bytes, before: int, after: int) -> bytes | None:
+    """Returns the octets of a message of one version as one of the other, None if its version has an unusual form."""
+    _, at = length_at(octets, 1)
+    old = VERSIONS[before]
+    return octets[:at] + VERSIONS[after] + octets[at + len(old) :] if octets.startswith(old, at) else None
+
+
+def asks_nothing_else(asked: Message) -> bool:
+    """Tells whether no binding of a message has a value."""
+    return all(it.value.tag == NULL for it in asked.bindings)
 
 
 def response(asked: Message, bindings: list[Binding], status: int = 0, index: int = 0) -> bytes:

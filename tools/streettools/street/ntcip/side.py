@@ -1,15 +1,25 @@
 """The cabinet as the front asks it: single objects by messages of version 1."""
 
+import functools
+
 from ...shared.ber import INTEGER, NULL, Arcs, Field, number_of
 from ...shared.snmp import GET, GET_NEXT, SET, V1, Binding, Message, message_of, octets_of
 from ..street import Street
 from .pdus import NO_SUCH_NAME
 
 NOTHING = Field(NULL, b"")
+MOST_KEPT = 1024
+"""How many messages of the front's own are kept: its objects ask for the same ones again and again."""
 
 
 class Silent(Exception):
     """The cabinet doesn't answer, as when the street begins a new session."""
+
+
+@functools.lru_cache(MOST_KEPT)
+def asking_for(community: bytes, names: tuple[Arcs, ...]) -> bytes:
+    """Returns the octets of a Get of some objects."""
+    return octets_of(Message(V1, community, GET, 1, 0, 0, [Binding(name, NOTHING) for name in names]))
 
 
 class Side:
@@ -35,7 +45,10 @@ class Side:
         known: dict[Arcs, Field | None] = {}
         wanted = list(dict.fromkeys(names))
         while wanted:
-            reply = await self.ask(GET, [Binding(name, NOTHING) for name in wanted])
+            octets = await self.street.message(self.cabinet, asking_for(self.street.community(), tuple(wanted)))
+            if octets is None:
+                raise Silent
+            reply = message_of(octets)
             if reply.first == 0:
                 return known | {it.arcs: it.value for it in reply.bindings}
             if reply.first != NO_SUCH_NAME:

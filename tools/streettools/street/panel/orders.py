@@ -4,6 +4,7 @@ import json
 from dataclasses import dataclass
 from typing import Any
 
+from ..acts import ALARMS, Alarm, Reboot
 from ..words import FASTEST, SLOWEST
 from .streams import MOST
 
@@ -77,7 +78,7 @@ class Hang:
     is_on: bool
 
 
-Order = Input | Pulse | Rate | Speed | Step | View | BadLine | Hang
+Order = Input | Pulse | Rate | Speed | Step | View | BadLine | Hang | Reboot | Alarm
 
 
 def whole(value: Any, low: int, high: int) -> int:
@@ -139,6 +140,12 @@ def order_of(text: str, cabinets: int) -> Order:
         return View(whole(told.get("cabinet"), 0, cabinets))
     if do == "line":
         return BadLine(switch(told.get("on")))
+    if do == "reboot":
+        return Reboot(whole(told.get("cabinet"), 1, cabinets))
+    if do == "alarm":
+        if told.get("name") not in ALARMS:
+            raise Wrong
+        return Alarm(whole(told.get("cabinet"), 1, cabinets), told["name"], switch(told.get("on")))
     if do == "hang":
         return Hang(whole(told.get("cabinet"), 1, cabinets), switch(told.get("on")))
     raise Wrong

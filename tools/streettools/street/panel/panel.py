@@ -12,6 +12,7 @@ from ...cabinet.messages import GET, message
 from ...shared import oids, pages
 from ...shared.fault import Fault
 from ...shared.status import Status
+from ..acts import ALARMS, Acts, Alarm, Reboot
 from ..line import Line
 from ..street import Hearer, Street
 from . import in_force, orders
@@ -60,6 +61,9 @@ class Panel(Hearer):
         self.pages: set[Page] = set()
         self.streams = Streams()
         self.line = Line([], 0)
+        self.acts: Acts
+        self.has_alarms = False
+        """Whether managers can read alarms: only the front has them."""
         self.pulses: list[tuple[int, bytes]] = []
         self.tasks: list[asyncio.Task[None]] = []
 
@@ -108,7 +112,7 @@ class Panel(Hearer):
         """Returns what a page receives as it opens."""
         called = {"names": self.names, "start": self.start()}
         laid = {"facts": self.shown.facts, "ticks": self.shown.scenario["ticks"]}
-        return {**laid, **called, "all": True, **self.shown.news(0)}
+        return {**laid, **called, "alarms": ALARMS if self.has_alarms else [], "all": True, **self.shown.news(0)}
 
     def start(self) -> int:
         """Returns the ticks since midnight at which a street with names starts; 0 for another, whose times are those
@@ -125,9 +129,15 @@ class Panel(Hearer):
             "step": self.street.after_message,
             "inputs": self.street.inputs.names(),
             "rates": self.streams.rates(),
-            "line": {"rules": len(self.line.rules), "on": self.line.is_on, "hanging": sorted(self.line.hanging)},
+            "line": {"rules": len(self.line.rules), "on": self.line.is_on, "hanging": self.hanging()},
+            "alarmed": {number: sorted(names) for number, names in self.street.alarms.items() if names},
             "ending": self.shown.ending,
         }
+
+    def hanging(self) -> list[int]:
+        """Returns the cabinets that get no message now."""
+        cabinets = range(1, 1 + len(self.shown.cabinets))
+        return [number for number in cabinets if self.line.silent_word(number)]
 
     def broadcast(self, told: dict[str, Any]) -> None:
         """Tells all pages."""
@@ -231,7 +241,12 @@ class Panel(Hearer):
             self.street.wake()
         elif isinstance(order, orders.BadLine):
             self.line.is_on = order.is_on
+        elif isinstance(order, Reboot | Alarm):
+            self.acts.do(order)
         elif isinstance(order, orders.Hang):
+            self.acts.note(order.cabinet, f"hang {'on' if order.is_on else 'off'}")
+            if not order.is_on:
+                self.line.silent.pop(order.cabinet, None)
             (self.line.hanging.add if order.is_on else self.line.hanging.discard)(order.cabinet)
         else:
             page.cabinet = order.cabinet

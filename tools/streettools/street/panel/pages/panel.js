@@ -6,7 +6,7 @@ const SIGNALS = { W: "walk", F: "flashing don't walk", D: "don't walk" };
 const STAGES = { e: "on the way", t: "track clearance", d: "dwell", x: "exit" };
 const KEPT = 200;
 const known = { facts: [], names: {}, cabinets: {}, now: 0, speed: 1, inputs: new Set(), rates: {}, greens: {}, details: {},
-  line: { rules: 0, on: true, hanging: [] } };
+  line: { rules: 0, on: true, hanging: [] }, alarms: [], alarmed: {} };
 const by = (id) => document.getElementById(id);
 let socket = null;
 let viewed = 0;
@@ -61,6 +61,7 @@ function take(told) {
   if (told.facts) {
     known.facts = told.facts;
     known.names = { ...told.names, start: told.start };
+    known.alarms = told.alarms;
     build();
   }
   if (told.laid) {
@@ -76,6 +77,7 @@ function take(told) {
     known.inputs = new Set(told.inputs);
     known.rates = told.rates;
     known.line = told.line;
+    known.alarmed = told.alarmed;
     showTime(told);
   }
   if (told.details) known.details = told.details;
@@ -404,6 +406,7 @@ function buildPreempts(facts) {
     return it;
   });
   by("preempts").replaceChildren(...preempts);
+  buildAlarms();
   const none = preempts.map((_, at) => at + 1).filter((n) => !facts.preempts.includes(n));
   by("no-preempts").hidden = none.length === 0;
   put(by("no-preempts"), `Not configured: ${none.join(", ")}. A preempt without dwell phases does nothing.`);
@@ -482,11 +485,26 @@ function showCabinet() {
   showFacts(shown);
   for (const p of known.facts[viewed - 1].phases) showPhase(p, shown);
   press("hang", known.line.hanging.includes(viewed));
+  for (const name of known.alarms) press(`alarm-${name}`, (known.alarmed[viewed] || []).includes(name));
   for (let n = 1; n <= 8; n += 1) {
     const isOn = known.inputs.has(`preempt ${viewed} ${n}`);
     press(`preempt-${n}`, isOn);
     by(`preempt-${n}`).disabled = !isOn && !known.facts[viewed - 1].preempts.includes(n);
   }
+}
+
+// Lists the alarms that a user turns on and off, if managers can read them.
+function buildAlarms() {
+  by("alarm-part").hidden = known.alarms.length === 0;
+  by("alarms").replaceChildren(...known.alarms.map((name) => {
+    const it = made("button", "", name);
+    it.type = "button";
+    it.id = `alarm-${name}`;
+    it.addEventListener("click", () => {
+      ask({ do: "alarm", cabinet: viewed, name, on: it.getAttribute("aria-pressed") !== "true" });
+    });
+    return it;
+  }));
 }
 
 // all
@@ -538,6 +556,7 @@ function connect() {
 
 by("pause").addEventListener("click", () => ask({ do: "speed", speed: known.speed === 0 ? resumed : 0 }));
 by("bad-line").addEventListener("click", () => ask({ do: "line", on: !known.line.on }));
+by("reboot").addEventListener("click", () => ask({ do: "reboot", cabinet: viewed }));
 by("hang").addEventListener("click", () => {
   ask({ do: "hang", cabinet: viewed, on: !known.line.hanging.includes(viewed) });
 });
