@@ -1,4 +1,4 @@
--- What an answer speaks of.
+-- What a reply can show.
 use Rattle.std.specs.Prelude.{ℕ, ◌≤◌, Option}
 use Rattle.sig_types.specs.declared.notes.StageAnswer.{StageAnswer}
 use Rattle.sig_tables.specs.declared.tables.Tables.{Tables}
@@ -12,11 +12,11 @@ pub record Seen : Type 0 where
   pub state : ℕ
   pub last : Option StageAnswer
 
--- the same as the code holds it
+-- the same, of a cabinet as the code stores it
 abbrev pub seen : Cabinet → Seen
 seen cabinet = record { tables = cabinet.tables.now; shown = cabinet.shown.now; state = cabinet.state; last = cabinet.last }
 
--- the numbers that an INTEGER of an answer must hold
+-- each number fits into an INTEGER of a reply: it is at most 2,147,483,647
 pub record IsWithin (shown : Shown) : Type 0 where
   pub clock : shown.clock ≤ 2147483647
   pub version : shown.version ≤ 2147483647

@@ -116,6 +116,7 @@ pub fn decode_into(frame: &[u8], community: &[u8], tables: &Tables, ask: &mut As
 
 /// What a frame asks of a cabinet of this community with these tables in force. None exactly if the frame isn't a
 /// message, is of another community, or is a Response.
+/// Here only tests call it; it is part of the public interface.
 pub fn decode(frame: &[u8], community: &[u8], tables: &Tables) -> Option<Ask>
     ensures found { IfSome result (λ ask. Asks frame.now community.now tables.now ask) }
     ensures none { IfNone result ((ask : Ask) → Asks frame.now community.now tables.now ask → ⊥) }

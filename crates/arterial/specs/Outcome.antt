@@ -1,4 +1,4 @@
--- What the shell learns from each answer.
+-- The exit status for each answer.
 use Rattle.std.specs.Prelude.{ℕ}
 use Rattle.station.specs.declared.status.Status.{Status}
 use Rattle.station.specs.declared.status.Status.TheVariants.{Done, Usage, Scenario, NotATrace, Overlap, Unsafe, NotALog, ReadFault, WriteFault, NoMemory}

@@ -1,4 +1,4 @@
--- What is printed on standard error for each answer: one line, or nothing where all is done.
+-- What is printed on standard error for each answer: one line, or nothing if the answer is Done.
 use Rattle.std.specs.Prelude.{ℕ, List, [], ◌∷◌, ◌++◌, codes, decimal, string_bytes}
 use Rattle.scenario_data.specs.declared.refusal.Refusal.{Refusal}
 use Rattle.scenario_data.specs.declared.refusal.Refusal.TheVariants.{Syntax, Field, Limit, Broken}
@@ -11,11 +11,11 @@ use Rattle.station.specs.declared.status.Status.TheVariants.{Done, Usage, Scenar
 abbrev pub words_line : List ℕ → List ℕ
 words_line words = words ++ 10 ∷ []
 
--- the words, what is named, and a newline
+-- the words, then a name, then a newline
 abbrev pub named_line : List ℕ → List ℕ → List ℕ
 named_line words name = words ++ (name ++ 10 ∷ [])
 
--- the words, a number, and what comes after it
+-- the words, then a number, then the rest
 abbrev pub number_then : List ℕ → ℕ → List ℕ → List ℕ
 number_then words n rest = (words ++ decimal n) ++ rest
 
@@ -27,7 +27,7 @@ refusal_line (Limit path) = named_line (codes "scenario: limit ") (string_bytes 
 refusal_line (Broken cab rule row) =
     number_then (codes "scenario: cabinet ") cab (number_then (codes " breaks rule ") rule (number_then (codes " at row ") row (10 ∷ [])))
 
--- why a line of a log can't follow those before it
+-- why a line of a log can't follow the lines before it
 abbrev pub fault_words : LineFault → List ℕ
 fault_words NotALine = codes " is not a line of a trace"
 fault_words NoCabinet = codes " is of a cabinet that the scenario does not have"

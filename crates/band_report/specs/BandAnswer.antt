@@ -1,4 +1,4 @@
--- What is reported of an object that asks of bands: two lines, or its first fault.
+-- The answer to a request for bands: two lines, or its first fault.
 use Rattle.std.specs.Prelude.{ℕ, ◌≡◌, List, [], ◌++◌, codes, decimal, false, true, Bool, Option, Some, None}
 use Rattle.serde_json.specs.Data.{Data}
 use Rattle.scenario_data.specs.declared.refusal.Refusal.{Refusal}
@@ -14,23 +14,24 @@ use Rattle.band_report.specs.Bands.{IsReport}
 use Rattle.band_report.specs.declared.asked.Asked.{Asked}
 use Rattle.band_report.specs.Asked.{section, pattern, cabinets_asked, travel_asked, band_faults}
 
--- the band, or that there is none
+-- the text of a band: its start, its width, and the numbers of the cabinets that limit it before and after; `none` if
+-- there is no band
 abbrev pub band_text : Option Band → List ℕ
 band_text None = codes "none"
 band_text (Some b) =
     decimal b.start ++ (codes " " ++ (decimal b.width ++ (codes " " ++ (decimal b.before ++ (codes " " ++ decimal b.after)))))
 
--- the two lines
+-- the two lines of an answer
 abbrev pub two_lines : Option Band → Option Band → List ℕ
 two_lines outbound inbound = codes "outbound " ++ (band_text outbound ++ (codes "\ninbound " ++ (band_text inbound ++ codes "\n")))
 
--- what there is to say about a way along the street that an object asks of
+-- the report on one direction of the street of a request
 abbrev pub IsTold : Data → Bool → Option Band → Type 0
 IsTold d inbound report =
     IsReport (number_at pattern d) (ring_driven inbound) (passages (cabinets_asked d) (number_at section d) (travel_asked d) inbound)
     (cycle_of (cabinets_asked d) (number_at section d) (number_at pattern d)) report
 
--- the text gives the widest band of each way along the street that an object asks of
+-- the text gives the widest band in each direction of the street of a request
 pub record TellsOf (d : Data) (text : List ℕ) : Type 0 where
   pub outbound : Option Band
   pub inbound : Option Band
@@ -38,22 +39,23 @@ pub record TellsOf (d : Data) (text : List ℕ) : Type 0 where
   pub is_inbound : IsTold d true inbound
   pub lines : text ≡ two_lines outbound inbound
 
--- the bytes are an object that asks of bands, and has no fault
+-- the bytes are a request for bands, without a fault
 abbrev pub AsksOfBands : List ℕ → Type 0
 AsksOfBands bytes = (d : Data) × Reads bytes d × (band_faults d ≡ [])
 
--- the text gives the widest bands of the object that the bytes are, which has no fault
+-- the bytes are a request for bands, without a fault, and the text gives its widest bands
 abbrev pub TellsBands : List ℕ → List ℕ → Type 0
 TellsBands bytes text = (d : Data) × Reads bytes d × (band_faults d ≡ []) × TellsOf d text
 
--- the refusal names the first fault of the bytes: that they have no reading, or the first fault of their value
+-- the refusal names the first fault of the bytes. Syntax means that they aren't a JSON text; every other refusal
+-- names the first fault of their value
 abbrev pub IsFirstBandFault : List ℕ → Refusal → Type 0
 IsFirstBandFault bytes Syntax = (d : Data) → Reads bytes d → ⊥
 IsFirstBandFault bytes (Field path) = (d : Data) × Reads bytes d × Names (Field path) (first_cause (band_faults d))
 IsFirstBandFault bytes (Limit path) = (d : Data) × Reads bytes d × Names (Limit path) (first_cause (band_faults d))
 IsFirstBandFault bytes (Broken cabinet rule row) = (d : Data) × Reads bytes d × Names (Broken cabinet rule row) (first_cause (band_faults d))
 
--- what was read says what the object says
+-- what was read is what the object describes
 pub record Says (a : Asked) (d : Data) : Type 0 where
   pub cabinets : (scenario_content a.scenario).cabinets ≡ cabinets_asked d
   pub section : a.section ≡ number_at section d

@@ -77,6 +77,7 @@ pub(crate) fn tagged_of(tag: u8, bytes: &[u8]) -> Option<(&[u8], &[u8])>
 }
 
 /// Reads the length at the front, in any of its definite forms. What follows it isn't looked at.
+/// Only users of this crate outside this repository call it.
 pub fn read_len(bytes: &[u8]) -> Option<(u32, &[u8])>
     ensures found { IfSome result (λ r. Begins IsLength bytes.now r.0 r.1.now) }
     ensures none { IfNone result (NothingBegins IsLength bytes.now) }
@@ -147,6 +148,7 @@ pub(crate) fn put_len(n: u32, out: &mut Octets)
 }
 
 /// Writes a length in its shortest form.
+/// Only users of this crate outside this repository call it.
 pub fn write_len(n: u32, out: &mut Octets) -> Result<(), Full>
     ensures variant { IsOk result ↔ (array_vec_len out.old + length (length_text n) ≤ 1472) }
     ensures ok { OnOk result (out.new.items ≡ out.old.items ++ length_text n) }

@@ -154,6 +154,7 @@ pub fn read_oid_into<'a>(bytes: &'a [u8], name: &mut Oid) -> Option<&'a [u8]>
 }
 
 /// Reads the OBJECT IDENTIFIER at the front.
+/// Only users of this crate outside this repository call it.
 pub fn read_oid(bytes: &[u8]) -> Option<(Oid, &[u8])>
     ensures found { IfSome result (λ r. Begins IsName bytes.now r.0.items r.1.now) }
     ensures none { IfNone result (NothingBegins IsName bytes.now) }

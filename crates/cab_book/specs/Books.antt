@@ -1,5 +1,5 @@
 -- What a book represents: the cabinet history at which its round began, the streams of the round, and the journal of
--- what was taken from them.
+-- the items that were taken from them.
 use Rattle.std.specs.Prelude.{ℕ, ◌+◌, ◌≡◌, ◌≢◌, ◌<◌, ◌≤◌, List, [], ◌∷◌, ◌++◌, length, replicate, get_or, None}
 use Rattle.sig_types.specs.declared.frame.Frame.{Frame}
 use Rattle.sig_types.specs.declared.streams.Stream.{Stream}
@@ -26,53 +26,57 @@ streams_in b = items_of b.streams
 abbrev pub journal_of : Book → List ℕ
 journal_of b = journal_in b.happened
 
--- the frames of the round that have a line, and the replies
+-- the displays of the round that have a line
 abbrev pub written_in : Book → List (ℕ × Frame)
 written_in b = written_of b.happened
 
+-- the replies of the round
 abbrev pub answered_in : Book → List Answered
 answered_in b = answered_of b.happened
 
--- how many items of a pass are left in the round
+-- the number of items of a pass that are left in the round
 abbrev pub left_of : Book → ℕ → ℕ
 left_of b pass = get_or b.left pass 0
 
--- what has been brought in the round so far
+-- the acts of the round so far
 abbrev pub acts_in : Book → List Act
 acts_in b = acts_so_far b.streams b.happened
 
--- a pass with the item that it brings next, and one that brings that many ticks
+-- the next act of a pass
 abbrev pub next_act : Book → ℕ → Act
 next_act b pass = record { pass = pass; item = get_or (get_or (streams_in b) pass []) (times pass (journal_of b)) Ticked }
 
+-- the acts of a pass that brings this many ticks
 abbrev pub tick_acts : ℕ → ℕ → List Act
 tick_acts pass many = replicate many (record { pass = pass; item = Ticked })
 
--- the cabinet itself
+-- the cabinet of the book
 abbrev pub cabinet_in : Book → Cabinet
 cabinet_in b = b.cabinet.value
 
--- the cabinet history by now, where the round began at this one
+-- the cabinet history now, if the round began at this one
 abbrev pub cabinet_history_now : Book → CabinetHistory → CabinetHistory
 cabinet_history_now b cabinet_history = cabinet_history_after b.streams b.happened cabinet_history
 
--- the engine that gives the frames of its cabinet
+-- the engine that computes the displays of the cabinet
 abbrev pub engine_of : Book → Engine
 engine_of b = cabinet_engine b.cabinet.value
 
--- how many ticks the cabinet will have had by the end of the round
+-- the number of ticks of the cabinet at the end of the round
 abbrev pub ticks_by_end : Book → ℕ
 ticks_by_end b = b.cabinet.value.ticks + ticks_left b.left
 
--- the book's round began at this cabinet history, and what it has written and replied since is what the journal has brought
+-- the book's round began at this cabinet history, and what the book has written and replied since is what its journal
+-- has brought
 abbrev pub BookStands : Book → CabinetHistory → Type 0
 BookStands b cabinet_history = RoundStands b.cabinet.value b.streams b.happened cabinet_history
 
--- all ticks of the round are those of pass 4: no pass above it has brought any, or has any left
+-- pass 4 brings all ticks of the round: no higher pass has brought any, and none has any left
 abbrev pub IsOnePart : Book → Type 0
 IsOnePart b = (p : ℕ) → 5 ≤ p → left_of b p + times p (journal_of b) ≡ 0
 
--- the ticks of a book to which nothing was brought have been shared in some way, or all given to pass 4: nothing else was changed
+-- the ticks of a book were shared among its passes, or all given to pass 4; nothing else changed. No item had been
+-- brought
 pub record Shares (old new : Book) : Type 0 where
   pub wide : length old.left ≡ 8
   pub cabinet : new.cabinet ≡ old.cabinet
@@ -81,13 +85,13 @@ pub record Shares (old new : Book) : Type 0 where
   pub others : (p : ℕ) → p < 4 → left_of new p ≡ left_of old p
   pub ticks : ticks_left new.left ≡ ticks_left old.left
 
--- a frame was ignored: the cabinet is as it was, and nothing but the silence was added
+-- a message was ignored: the cabinet is unchanged, and only the missing reply was noted
 pub record IsIgnored (old new : Book) (pass : ℕ) : Type 0 where
   pub cabinet : cabinet_in new ≡ cabinet_in old
   pub written : written_in new ≡ written_in old
   pub silence : answered_in new ≡ answered_in old ++ behind (length (written_in old)) (record { pass = pass; text = None; load = None } ∷ [])
 
--- so is an item of a pass that is a frame by which nothing is asked
+-- if the next item of a pass is a message that asks nothing, it is ignored
 abbrev pub IgnoresWhatAsksNothing : Book → Book → ℕ → Item → Type 0
 IgnoresWhatAsksNothing old new pass item = (cabinet_history : CabinetHistory) (octets : List ℕ) → BookStands old cabinet_history → item ≡ Came octets
     → ask_after (cabinet_history_now old cabinet_history) octets ≡ None → IsIgnored old new pass
@@ -103,7 +107,7 @@ pub record IsBrought (old new : Book) (pass : ℕ) : Type 0 where
   pub ticks : ticks_by_end new ≡ ticks_by_end old
   pub ignored : IgnoresWhatAsksNothing old new pass (next_act old pass).item
 
--- an item more is at the end of a stream, and is left to be brought
+-- one more item was added at the end of a stream, and has not been brought
 pub record IsLengthened (old new : Book) (stream : Stream) (item : Item) : Type 0 where
   pub stands : (cabinet_history : CabinetHistory) → BookStands old cabinet_history → BookStands new cabinet_history
   pub streams : streams_in new ≡ with_last (streams_in old) stream item
@@ -116,7 +120,7 @@ pub record IsLengthened (old new : Book) (stream : Stream) (item : Item) : Type 
   pub written : written_in new ≡ written_in old
   pub answered : answered_in new ≡ answered_in old
 
--- an item more is at the end of a stream, and was brought at once
+-- one more item was added at the end of a stream, and was brought at once
 pub record IsBroughtAtEnd (old new : Book) (stream : Stream) (item : Item) : Type 0 where
   pub stands : (cabinet_history : CabinetHistory) → BookStands old cabinet_history → BookStands new cabinet_history
   pub streams : streams_in new ≡ with_last (streams_in old) stream item
@@ -127,14 +131,14 @@ pub record IsBroughtAtEnd (old new : Book) (stream : Stream) (item : Item) : Typ
   pub one : IsOnePart old → IsOnePart new
   pub ignored : IgnoresWhatAsksNothing old new (number_of stream) item
 
--- of a book nothing has changed but the room that there is for what happens
+-- only the capacity of a book's lists has changed
 pub record HasOnlyRoom (old new : Book) : Type 0 where
   pub cabinet : cabinet_in new ≡ cabinet_in old
   pub streams : new.streams ≡ old.streams
   pub left : new.left ≡ old.left
   pub happened : IsSameRound old.happened new.happened
 
--- nothing that a contract says about a book has changed
+-- nothing has changed that a contract states about a book
 pub record IsAsBefore (old new : Book) : Type 0 where
   pub cabinet_histories : (cabinet_history : CabinetHistory) → BookStands old cabinet_history → BookStands new cabinet_history
   pub no_others : (cabinet_history : CabinetHistory) → BookStands new cabinet_history → BookStands old cabinet_history
@@ -146,8 +150,8 @@ pub record IsAsBefore (old new : Book) : Type 0 where
   pub left : (p : ℕ) → left_of new p ≡ left_of old p
   pub ticks : ticks_by_end new ≡ ticks_by_end old
 
--- the book now is what the first has reached by passes that brought items of the same round: it has the same streams,
--- the round of each began at the same cabinet histories, and the cabinet will have had as many ticks by its end
+-- the book `now` results from `first` by passes that brought items of the same round. It has the same streams, its
+-- round began at the same cabinet histories, and its cabinet has the same number of ticks at the end of the round
 pub record Replays (first now : Book) : Type 0 where
   pub streams : streams_in now ≡ streams_in first
   pub cabinet_histories : (cabinet_history : CabinetHistory) → BookStands first cabinet_history → BookStands now cabinet_history

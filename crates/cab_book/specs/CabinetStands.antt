@@ -26,13 +26,13 @@ use Rattle.cab_book.specs.declared.cabinet.Cabinet.{Cabinet}
 abbrev pub cabinet_engine : Cabinet → Engine
 cabinet_engine c = engine_of c.control
 
--- the numbers that an answer tells are those of an INTEGER
+-- the numbers that a reply can show fit into an INTEGER
 pub record IsShowable (past : Past) : Type 0 where
   pub clock : clock_shown past < 864000
   pub counter : (frame_seen past).counter ≤ 2147483647
   pub target : (frame_seen past).target ≤ 2147483647
 
--- what a cabinet history has reached can be continued with, after N ticks
+-- the state after `n` ticks is sound, so that the cabinet history can be continued
 pub record IsSound (n : ℕ) (has : Coming) : Type 0 where
   pub ticks : n + 1 ≡ length (frames has.history)
   pub shows : IsShowable (past_of has)
@@ -41,27 +41,27 @@ pub record IsSound (n : ℕ) (has : Coming) : Type 0 where
   pub few : FewInstalls (past_of has).version (kept (answered has.calls)) (stage_state (answered has.calls))
   pub ids : kept (answered has.calls) ≤ 2147483647
 
--- a Get of nothing, as the room for what a frame asks is left
+-- a Get without bindings: the default in the storage for requests
 abbrev pub blank_ask : Ask
 blank_ask = record {
   message = record { community = record { items = [] }; pdu = Get; id = pos 0; status = pos 0; index = pos 0; binds = record { items = [] } };
   wish = GetWish;
 }
 
--- a control and a stage represent what a cabinet history has reached
+-- a control and a stage represent the result of a cabinet history
 pub record CabinetKeeps (c : Cabinet) (has : Coming) : Type 0 where
   pub control : ControlStands c.control has.history
   pub stage : StageStands c.stage has.calls
   pub counted : tick_count c.control ≡ c.ticks
   pub sound : IsSound c.ticks has
 
--- and the cabinet is that of the cabinet history
+-- the cabinet represents this cabinet history
 pub record CabinetStands (c : Cabinet) (cabinet_history : CabinetHistory) : Type 0 where
   pub community : c.community.items ≡ cabinet_history.community
   pub blank : c.ask ≡ blank_ask
   pub keeps : CabinetKeeps c (coming cabinet_history)
 
--- the stage has answered a wish, and the control has not yet carried it out
+-- the stage has answered a request, and the control has not carried it out yet
 pub record IsAnswered (control : Control) (stage : Stage) (has : Coming) (wish : Wish) (answer : Option StageAnswer) : Type 0 where
   pub controller_stands : ControlStands control has.history
   pub stage_stands : StageStands stage (with_call has.calls (call_of has wish))
@@ -69,14 +69,14 @@ pub record IsAnswered (control : Control) (stage : Stage) (has : Coming) (wish :
   pub few : FewInstalls (past_of has).version (kept (answered has.calls)) (stage_state (answered has.calls))
   pub ids : kept (answered has.calls) ≤ 2147483647
 
--- nothing but a drift of the clock has been set
+-- these events only set the drift of the clock
 abbrev pub OnlyDrifts : List Event → Type 0
 OnlyDrifts [] = Unit {0}
 OnlyDrifts (SetDrift gain lose ∷ events) = OnlyDrifts events
 OnlyDrifts _ = ⊥
 
--- the history of a controller that was opened at a time of the day with tables whose every cell holds an allowed value,
--- and to which nothing has happened
+-- the history of a controller at the start: its clock is a tick of the day, each cell of its tables has an allowed
+-- value, and nothing has happened
 pub record IsNew (h : History) : Type 0 where
   pub events : OnlyDrifts h.events
   pub of_day : h.clock < 864000

@@ -1,4 +1,5 @@
--- What a round has reached so far, as it is kept: its journal, the frames that have a line, and the replies.
+-- What a round has produced so far, as the code stores it: its journal, the displays that have a line, and the
+-- replies.
 use Rattle.std.specs.Prelude.{ℕ, ◌≡◌, ◌≤◌, ◌+◌, List, [], ◌∷◌, ◌++◌, length, replicate, map, vec_len, vec_capacity}
 use Rattle.sig_types.specs.declared.frame.Frame.{Frame}
 use Rattle.cabinet_history.specs.declared.Reply.{Reply}
@@ -21,37 +22,36 @@ written_of h = h.written.items
 abbrev pub answered_of : Happened → List Answered
 answered_of h = h.replies.items
 
--- there is room for that many ticks, that many frames from elsewhere and that many items in all, in addition to what
--- there is
+-- there is capacity for this many more ticks, messages and items
 pub record HasRoom (h : Happened) (ticks frames items : ℕ) : Type 0 where
   pub written : vec_len h.written + ticks ≤ vec_capacity h.written
   pub replies : vec_len h.replies + frames ≤ vec_capacity h.replies
   pub journal : vec_len h.journal.runs + items ≤ vec_capacity h.journal.runs
 
--- what is kept is the same, whatever room there is
+-- the content is the same, whatever the capacity
 pub record IsSameRound (old new : Happened) : Type 0 where
   pub journal : journal_in new ≡ journal_in old
   pub written : written_of new ≡ written_of old
   pub replies : answered_of new ≡ answered_of old
 
--- what is kept is what these acts give after a cabinet history: the frames, the replies, and their order
+-- the content is what these acts produce after a cabinet history: the displays, the replies, and their order
 pub record IsWritten (h : Happened) (cabinet_history : CabinetHistory) (acts : List Act) : Type 0 where
   pub frames : written_of h ≡ acts_written cabinet_history acts
   pub replies : replies_in (answered_of h) ≡ acts_replies cabinet_history acts
   pub order : interleaved 0 (written_of h) (answered_of h) ≡ acts_happenings cabinet_history acts
   pub counts : AreInOrder 0 (answered_of h) (length (written_of h))
 
--- replies that came after that many of the frames
+-- replies that came after this many displays
 abbrev pub behind : ℕ → List Reply → List Answered
 behind many replies = map (λ r. record { reply = r; behind = many }) replies
 
--- one pass more, which has brought these frames and these replies
+-- one more pass has brought an item that produced these displays and these replies
 pub record HappenedGoesOn (old new : Happened) (pass : ℕ) (frames : List (ℕ × Frame)) (told : List Reply) : Type 0 where
   pub journal : journal_in new ≡ journal_in old ++ pass ∷ []
   pub written : written_of new ≡ written_of old ++ frames
   pub replies : answered_of new ≡ answered_of old ++ behind (length (written_of old)) told
 
--- a pass has brought that many ticks, which have given these frames
+-- a pass has brought this many ticks, which produced these displays
 pub record TicksOn (old new : Happened) (pass many : ℕ) (frames : List (ℕ × Frame)) : Type 0 where
   pub journal : journal_in new ≡ journal_in old ++ replicate many pass
   pub written : written_of new ≡ written_of old ++ frames

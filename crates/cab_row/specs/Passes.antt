@@ -1,4 +1,4 @@
--- What clauses say of a row and its passes.
+-- What the clauses of a row and its passes state.
 use Rattle.std.specs.Prelude.{◌≡◌, ◌≢◌, ℕ, ◌+◌, ◌-◌, ◌%◌, ◌<◌, ◌≤◌, ◌⊎◌, List, [], ◌∷◌, length, slice_index, slice_index_or, replicate, map, None, vec_capacity}
 use mathlib.Core.Option.{some}
 use base.Stored.{Gv}
@@ -13,15 +13,15 @@ abbrev pub seat_view : List View → View
 seat_view [] = spent
 seat_view (v ∷ vs) = v
 
--- what the pass knows of its own doings
+-- what the pass knows of its own actions
 abbrev pub view_of : Pass → View
 view_of pass = seat_view pass.badge.views
 
--- how many items the calls of the pass at the cabinet (counted from 1) were answered as done
+-- the number of the pass's items at this cabinet (counted from 1) whose calls were answered as done
 abbrev pub done_by : Pass → ℕ → ℕ
 done_by pass cab = count pass.number (cab - 1) (view_of pass)
 
--- the view of a pass that holds nothing
+-- the view belongs to this pass, and holds no cabinet
 pub record IsOwn (opening : List Gv) (passes number : ℕ) (v : View) : Type 0 where
   pub opening_is : v.opening ≡ opening
   pub passes_are : v.passes ≡ passes
@@ -32,28 +32,28 @@ pub record IsOwn (opening : List Gv) (passes number : ℕ) (v : View) : Type 0 w
   pub only : (p c : ℕ) → p ≢ number → count p c v ≡ 0
 
 module _ {B : Type 0} where
-  -- the books that the row was opened with
+  -- the books with which the row was opened
   abbrev pub books_of : Row B → List B
   books_of row = row.table.shared.key.books.value.items
 
-  -- the capacity of the list that they came in
+  -- the capacity of the list with these books
   abbrev pub room_of : Row B → ℕ
   room_of row = vec_capacity row.room
 
-  -- how many items the pass n was opened with at a cabinet, counted from 0
+  -- the number of items with which pass `n` was opened at a cabinet, counted from 0
   abbrev pub items_at : Row B → ℕ → ℕ → ℕ
   items_at row c n = slice_index (slice_index_or row.items.items c (replicate 8 0)) n
 
-  -- how many it has left there, the cabinet counted from 1
+  -- the number of items that the pass has left at a cabinet, counted from 1
   abbrev pub remains : Row B → Pass → ℕ → ℕ
   remains row pass cab = items_at row (cab - 1) pass.number - slice_index pass.done (cab - 1)
 
--- what the views of the passes count is what the view v counts
+-- the views of these passes together count what the view `v` counts
 abbrev pub Sums : List Pass → View → Type 0
 Sums passes v = ((p : ℕ) → owns p v ≡ total (λ x. owns p (view_of x)) passes) × ((p c : ℕ) → count p c v ≡ total (λ x. count p c (view_of x)) passes)
 
 module _ {B : Type 0} (code : B → Gv) (left_of : B → ℕ → ℕ) where
-  -- the pass is of this row
+  -- the pass belongs to this row
   pub record IsPassOf (row : Row B) (pass : Pass) : Type 0 where
     pub table : pass.badge.table_id ≡ row.table.shared.table_id
     pub views : pass.badge.views ≡ view_of pass ∷ []
@@ -63,18 +63,18 @@ module _ {B : Type 0} (code : B → Gv) (left_of : B → ℕ → ℕ) where
     pub left : (c : ℕ) (first : B) → get_elem? (books_of row) c ≡ some first → (slice_index pass.done c ≤ left_of first pass.number) × (items_at row c pass.number ≡ left_of first pass.number) × (left_of first pass.number ≤ 2147483648)
     pub done : (c : ℕ) → c < 64 → slice_index pass.done c ≡ count pass.number c (view_of pass)
 
-  -- a pass that has done nothing
+  -- the pass is new: it has done nothing
   pub record IsNew (row : Row B) (number : ℕ) (pass : Pass) : Type 0 where
     pub mine : IsPassOf row pass
     pub number_is : pass.number ≡ number
     pub none_done : (view_of pass).done ≡ []
 
-  -- new passes, with the numbers from p on
+  -- these are new passes, with the numbers from `p` on
   abbrev pub AreNew : Row B → ℕ → List Pass → Type 0
   AreNew row p [] = Unit {0}
   AreNew row p (x ∷ xs) = IsNew row p x × AreNew row (p + 1) xs
 
-  -- the row has noted what each book had left of each pass
+  -- the row has noted how many items each book had left for each pass
   abbrev pub HasItems : Row B → Type 0
   HasItems row = (c : ℕ) (first : B) → get_elem? (books_of row) c ≡ some first → (p : ℕ) → p < 8 → (items_at row c p ≡ left_of first p) × (left_of first p ≤ 2147483648)
 
@@ -91,18 +91,19 @@ HasBrought v w c k = (seen : ℕ) × (seen % 2 ≡ 0) × (w ≡ finished_with (l
 abbrev pub WasMet : View → View → ℕ → ℕ → Type 0
 WasMet v w c word = ((word % 2 ≡ 1) × (w ≡ looked v c word)) ⊎ ((seen : ℕ) × (seen % 2 ≡ 0) × (word ≢ seen) × (w ≡ looked (looked v c seen) c word))
 
--- the counts, and what the pass has added to each word, are as before
+-- the counts, and what the pass has added to each word, are unchanged
 abbrev pub SameCounts : View → View → Type 0
 SameCounts v w = ((p c : ℕ) → count p c w ≡ count p c v) × ((c : ℕ) → added c w ≡ added c v)
 
--- the last look was made in this call and found the word there: an odd one, or one different from the look before, also
--- in this call, found there
+-- the last look was made in this call and found this word at the cabinet. The word is odd, or it differs from the
+-- word that the look before it, also in this call, found there
 abbrev pub HasSeen : View → View → ℕ → ℕ → Type 0
 HasSeen v w c word = (v.looks < w.looks) × (w.last ≡ (c, word))
     × ((word % 2 ≡ 1) ⊎ ((v.looks + 2 ≤ w.looks) × (w.before.0 ≡ c) × (w.before.1 ≢ word)))
 
 module _ {B : Type 0} (journal : B → List ℕ) (left_of : B → ℕ → ℕ) (Replays : B → B → Type 0) where
-  -- the book replays its journal from the first one, and the journal has each pass as often as its items there were answered as done, and no other pass
+  -- the book replays its journal from the first book. The journal has each pass as often as its items at this cabinet
+  -- were answered as done, and no other pass
   pub record IsMerged (first : B) (passes : List Pass) (cab : ℕ) (b : B) : Type 0 where
     pub replays : Replays first b
     pub left : (p : ℕ) → left_of b p + times p (journal b) ≡ left_of first p

@@ -47,6 +47,7 @@ impl<B: Logged> Row<B> {
     /// Applies the pass's next item at the cabinet, unless another pass is there. Done: it looked, found the cabinet free, and
     /// applied one item. Busy: it found a word that is odd, or one that had changed since this call looked; it changed no book and
     /// no word. On a row with one pass the answer is Done. It takes no memory and waits for nothing.
+    /// Here only tests call it; it is part of the public interface.
     pub fn act(&self, pass: &mut Pass, cab: u32) -> Act
         requires pass { IsPassOf B.row.coded.code B.left_of self.now pass.old }
         requires cab { (1 ≤ cab) × (cab ≤ length (books_of self.now)) }

@@ -1,10 +1,10 @@
--- How many downloads can have been put in force, by where the last that began is.
+-- How many downloads may have been put in force, by the state of the last one that began.
 use Rattle.std.specs.Prelude.{ℕ, ◌≡◌, ◌<◌, ◌≤◌}
 use Rattle.stage_txn.specs.declared.StageState.{StageState}
 use Rattle.stage_txn.specs.declared.StageState.TheVariants.{Rest, Open, Checked, Done}
 
--- that many downloads were put in force, where the last that began has this id and is so: each has a greater id than
--- the one before it
+-- this many downloads may have been put in force, if the last one that began has this id and this state. Each
+-- download has a higher id than the one before it
 abbrev pub FewInstalls : ℕ → ℕ → StageState → Type 0
 FewInstalls version id Rest = (version ≡ 0) × (id ≡ 0)
 FewInstalls version id Open = version < id

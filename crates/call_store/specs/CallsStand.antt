@@ -1,4 +1,4 @@
--- What the store keeps is what looking back over the inputs and the frames gives.
+-- The stored calls are what looking back over the inputs and the frames gives.
 use Rattle.std.specs.Prelude.{ℕ, ◌≤◌, ◌<◌, ◌||◌, Bool, Option, Some, None}
 use Rattle.sig_types.specs.declared.frame.Field.{Field}
 use Rattle.sig_types.specs.declared.frame.Field.TheVariants.{Veh, Ped as Button, Preempt}
@@ -13,7 +13,8 @@ use Rattle.sig_tables.specs.Layout.{Has}
 use Rattle.sig_tables.specs.Seen.{vehicle_seen, pedestrian_seen, detectors_seen}
 use Rattle.call_store.specs.declared.Calls.{Calls}
 
--- the store represents the past: the locked calls, the detectors that are on, and those turned on since the last frame
+-- the store represents the past: its sets are the locked calls, the detectors that are on, and those that were turned
+-- on since the last frame
 pub record CallsStand (c : Calls) (past : Past) : Type 0 where
   pub vehicle : Has c.vehicle (is_in (vehicle_seen past))
   pub pedestrian : Has c.pedestrian (is_in (pedestrian_seen past))
@@ -24,14 +25,14 @@ pub record CallsStand (c : Calls) (past : Past) : Type 0 where
 abbrev pub is_walking : Frame → ℕ → Bool
 is_walking f p = same_signal (signal_of f p) Walk
 
--- a detector or a button is that of a phase 1 to 16
+-- the input belongs to one of the phases 1 to 16, or to a preempt
 abbrev pub NamesPhase : Field → Type 0
 NamesPhase (Veh q on) = (0 < q) × (q ≤ 16)
 NamesPhase (Button q) = (0 < q) × (q ≤ 16)
 NamesPhase (Preempt n on) = Unit {0}
 
--- phase p is active at a tick where this pattern binds: by itself, or since the pattern's split holds it to its maximum (of a
--- disabled phase this says nothing, since activity is only ever looked at on Green)
+-- phase p is active at a tick with this pattern in effect: by itself, or by the pattern's maximum recall. For a
+-- disabled phase the result doesn't matter, since only the activity of Green phases is used
 abbrev pub is_active_with : Option ℕ → Past → ℕ → Bool
 is_active_with None past p = is_active past.tables past.heard (detectors_seen past) p
 is_active_with (Some n) past p = is_active past.tables past.heard (detectors_seen past) p || split_maximum past.tables n p

@@ -20,27 +20,27 @@ use Rattle.call_store.specs.declared.crossing.Greens.{Greens}
 use Rattle.call_store.specs.declared.crossing.Greens.TheVariants.{Rest as NoGreens, StartUp as StartUpGreens, Rings as RingGreens}
 use Rattle.call_store.specs.declared.crossing.Crosswalks.{Crosswalks}
 
--- Walk may begin in a frame of this mode: in Free, in Coord and on the way to it
+-- Walk may begin in a frame of this mode: Free, Seek or Coord
 abbrev pub may_walk : Mode → Bool
 may_walk Free = true
 may_walk (Seek n) = true
 may_walk (Coord n) = true
 may_walk _ = false
 
--- whose greens begin in a turn
+-- the greens that begin, by what the rings do
 abbrev pub greens_of : RingTurn → Greens
 greens_of Rest = NoGreens
 greens_of StartUp = StartUpGreens
 greens_of Rings = RingGreens
 greens_of (Goal goal) = RingGreens
 
--- in a frame of a pattern's coordination the options are those of its split; in another they do not count
+-- in a frame of Coord the options are those of the pattern's split; in other modes any options are allowed
 abbrev pub SaysInCoord : Option (Bor SplitOptions) → Mode → Tables → Type 0
 SaysInCoord options (Coord n) t = AreActivePattern options (Some n) t
 SaysInCoord options mode t = Unit {0}
 
--- the crosswalks are those between the last frame and these colours, with the calls and the turn of the crossing, and with
--- its Green phases to which an incompatible one has demand (what the set says of other phases does not count)
+-- the crosswalks are those between the last frame and these colours, with the pedestrian calls and the turn of the
+-- crossing. Of the phases that were Green, the opposed ones are those of the crossing
 pub record ShowsCrossing (s : Crosswalks) (crossing : Crossing) (f : Frame) (veh : List Colour) : Type 0 where
   pub begins : Has s.begins (λ p. same_colour (colour_of f p) Red && same_colour (colour_in veh p) Green)
   pub rests : Has s.rests

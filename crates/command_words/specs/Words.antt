@@ -1,4 +1,4 @@
--- What the words of a command line say.
+-- Which command the words of a command line are.
 use Rattle.std.specs.Prelude.{◌≡◌, ◌≤◌, ◌⊎◌, ℕ, Bool, true, false, List, [], ◌∷◌, ◌++◌, Ok, codes, decimal, length}
 use Rattle.hex.specs.Hex.{decode_of}
 use Rattle.gen_arterial.specs.Written.{CanMake}
@@ -8,46 +8,47 @@ use Rattle.command_words.specs.declared.command.Overlap.{Overlap}
 use Rattle.command_words.specs.declared.command.Command.{Command}
 use Rattle.command_words.specs.declared.command.Command.TheVariants.{Run, Check, Generate, Survey, Band, Respond, Overlaps, Live, Judge, Help, Version}
 
--- to run a scenario by that many workers, 0 to 8; with no number it is by none
+-- the words are `run`, with 0 workers, or `run --workers N`, with N workers from 0 to 8
 abbrev pub IsRun : List (List ℕ) → ℕ → Type 0
 IsRun words workers =
     ((words ≡ codes "run" ∷ []) × (workers ≡ 0)) ⊎ ((words ≡ codes "run" ∷ codes "--workers" ∷ decimal workers ∷ []) × (workers ≤ 8))
 
--- to check a trace
+-- the words are `check`: check a trace
 abbrev pub IsCheck : List (List ℕ) → Type 0
 IsCheck words = words ≡ codes "check" ∷ []
 
--- the words that give a seed, a number of cabinets and one of rounds
+-- the options `--seed`, `--cabinets` and `--rounds` with these numbers
 abbrev pub seeding_words : Seeding → List (List ℕ)
 seeding_words from =
     codes "--seed" ∷ decimal from.seed ∷ codes "--cabinets" ∷ decimal from.cabinets ∷ codes "--rounds" ∷ decimal from.rounds ∷ []
 
--- from these a scenario is generated: the seed has 32 bits
+-- a scenario can be generated from these numbers: the seed has at most 32 bits, and the numbers of cabinets and
+-- rounds are allowed
 abbrev pub CanSeed : Seeding → Type 0
 CanSeed from = (from.seed ≤ 4294967295) × CanMake from.cabinets from.rounds
 
--- to write the scenario that is generated from these
+-- the words are `generate` with these options: write the generated scenario
 abbrev pub IsGenerate : List (List ℕ) → Seeding → Type 0
 IsGenerate words from = (words ≡ codes "generate" ∷ seeding_words from) × CanSeed from
 
--- to count what a run of it comes to
+-- the words are `survey` with these options: write the totals of a run of the generated scenario
 abbrev pub IsSurvey : List (List ℕ) → Seeding → Type 0
 IsSurvey words from = (words ≡ codes "survey" ∷ seeding_words from) × CanSeed from
 
--- to report the widest bands of a street
+-- the words are `band`: report the widest progression bands of a section
 abbrev pub IsBand : List (List ℕ) → Type 0
 IsBand words = words ≡ codes "band" ∷ []
 
--- to write the scenario of a field file
+-- the words are `respond`: write the scenario of a field file
 abbrev pub IsRespond : List (List ℕ) → Type 0
 IsRespond words = words ≡ codes "respond" ∷ []
 
--- the words that give an overlap, where this word gives its parents
+-- the options that give an overlap; the word `hex` gives its parent phases
 abbrev pub overlap_words : Overlap → List ℕ → List (List ℕ)
 overlap_words overlap hex =
     codes "--cabinet" ∷ decimal overlap.cabinet ∷ codes "--parents" ∷ hex ∷ codes "--trail" ∷ decimal overlap.trail ∷ codes "--yellow" ∷ decimal overlap.yellow ∷ codes "--red" ∷ decimal overlap.red ∷ []
 
--- an overlap that can be asked for: of cabinet 1 to 64, of 1 to 16 parents, and of times of at most 255 ticks
+-- the overlap is valid: it has a cabinet from 1 to 64, 1 to 16 parent phases, and times of at most 255 ticks
 pub record IsOverlap (overlap : Overlap) : Type 0 where
   pub numbered : (1 ≤ overlap.cabinet) × (overlap.cabinet ≤ 64)
   pub parented : (1 ≤ length overlap.parents.items) × (length overlap.parents.items ≤ 16)
@@ -55,44 +56,46 @@ pub record IsOverlap (overlap : Overlap) : Type 0 where
   pub yellowed : overlap.yellow ≤ 255
   pub cleared : overlap.red ≤ 255
 
--- these words give it: its parents by a word of hexadecimal digits, two for each, in either case
+-- these options give this overlap. The word of the parent phases has two hexadecimal digits for each phase, in upper
+-- or lower case
 abbrev pub IsGiven : List (List ℕ) → Overlap → Type 0
 IsGiven words overlap = (hex : List ℕ) × (words ≡ overlap_words overlap hex) × (decode_of hex ≡ Ok overlap.parents.items) × IsOverlap overlap
 
--- to report this overlap by a trace
+-- the words are `overlaps` with options that give this overlap: report the overlap over a trace
 abbrev pub IsOverlaps : List (List ℕ) → Overlap → Type 0
 IsOverlaps words overlap = (hex : List ℕ) × (words ≡ codes "overlaps" ∷ overlap_words overlap hex) × (decode_of hex ≡ Ok overlap.parents.items) × IsOverlap overlap
 
--- to answer the requests of a session
+-- the words are `live`: answer the requests of a session
 abbrev pub IsLive : List (List ℕ) → Type 0
 IsLive words = words ≡ codes "live" ∷ []
 
--- the words give a number by an option, at most that many; with no words it is 0
+-- the words are this option with the number `n`, which is at most `most`; without words `n` is 0
 abbrev pub IsOptional : List (List ℕ) → List ℕ → ℕ → ℕ → Type 0
 IsOptional words option most n = ((words ≡ []) × (n ≡ 0)) ⊎ ((words ≡ option ∷ decimal n ∷ []) × (n ≤ most))
 
--- the option of a log that begins in the middle
+-- the option `--joined`, if the log begins in the middle
 abbrev pub joined_words : Bool → List (List ℕ)
 joined_words true = codes "--joined" ∷ []
 joined_words false = []
 
--- the words give terms: whether a log begins in the middle, and then a tolerance of 0 to 20 ticks, which is 0 if no number is given
+-- the words give the terms of a judgement: `--joined` if the log begins in the middle, then `--tolerance` with 0 to
+-- 20 ticks. Without `--tolerance` the tolerance is 0
 abbrev pub IsTerms : List (List ℕ) → Terms → Type 0
 IsTerms words terms = (rest : List (List ℕ)) × (words ≡ joined_words terms.joined ++ rest) × IsOptional rest (codes "--tolerance") 20 terms.tolerance
 
--- to judge a log on these terms
+-- the words are `judge` with options that give these terms: judge a log
 abbrev pub IsJudge : List (List ℕ) → Terms → Type 0
 IsJudge words terms = (rest : List (List ℕ)) × (words ≡ codes "judge" ∷ rest) × IsTerms rest terms
 
--- to write the help
+-- the words are `--help`: write the help
 abbrev pub IsHelp : List (List ℕ) → Type 0
 IsHelp words = words ≡ codes "--help" ∷ []
 
--- to write the version
+-- the words are `--version`: write the version
 abbrev pub IsVersion : List (List ℕ) → Type 0
 IsVersion words = words ≡ codes "--version" ∷ []
 
--- the words ask for this
+-- the words are this command
 abbrev pub AskFor : List (List ℕ) → Command → Type 0
 AskFor words (Run workers) = IsRun words workers
 AskFor words Check = IsCheck words
@@ -106,6 +109,6 @@ AskFor words (Judge terms) = IsJudge words terms
 AskFor words Help = IsHelp words
 AskFor words Version = IsVersion words
 
--- they are a command
+-- the words are a command
 abbrev pub IsCommand : List (List ℕ) → Type 0
 IsCommand words = (command : Command) × AskFor words command

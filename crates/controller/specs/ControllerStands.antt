@@ -1,4 +1,4 @@
--- A controller represents a history: the engine does, over registers.
+-- A controller represents a history if its engine does, with registers as its memory.
 use Rattle.std.specs.Prelude.{ℕ}
 use Rattle.sig_tables.specs.Past.{History}
 use Rattle.engine.specs.declared.Engine.{Engine}
@@ -9,7 +9,7 @@ use Rattle.controller.specs.Registers.{RegistersStand, frames}
 abbrev pub ControllerStands : Engine Registers → History → Type 0
 ControllerStands c h = EngineStands RegistersStand c h
 
--- the number of ticks so far, and of tables put in force since the opening
+-- the number of ticks so far, and of downloads put in force since the opening
 abbrev pub tick_count : Engine Registers → ℕ
 tick_count c = ticks_of frames c
 

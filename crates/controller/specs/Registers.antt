@@ -1,4 +1,4 @@
--- Registers are what looking back over past frames gives.
+-- The registers are what looking back over past frames gives.
 use Rattle.std.specs.Prelude.{ℕ, ◌-◌, ◌≡◌, ◌≤◌, max, get_or, true}
 use Rattle.sig_tables.specs.Past.{Past}
 use Rattle.sig_tables.specs.Looking.{last_on, latest_on, start_run}
@@ -14,11 +14,11 @@ use Rattle.tick_context.specs.Modes.{is_coord}
 use Rattle.coord_count.specs.CountStands.{counter_of}
 use Rattle.controller.specs.declared.Registers.{Registers}
 
--- the number of frames so far, each of which all clocks were given
+-- the number of frames so far, which all clocks have counted
 abbrev pub frames : Registers → ℕ
 frames c = max (max (step_count c.clocks) (signal_steps c.signals)) (preempt_steps c.preempts)
 
--- what is kept is what the past gives
+-- the registers represent the past
 pub record RegistersStand (c : Registers) (past : Past) : Type 0 where
   pub clocks : ClocksStand c.clocks past.moments
   pub signals : SignalsStand c.signals past.moments
@@ -28,7 +28,7 @@ pub record RegistersStand (c : Registers) (past : Past) : Type 0 where
   pub start : c.start_run ≡ start_run past.moments
   pub counts : CountStandsFor c.count past
 
--- no register except the counts changes at ticks that see this
+-- no register except the count changes at ticks that see this
 pub record IsReady (c : Registers) (x : TickContext) (s : TickInputs) : Type 0 where
   pub counter : is_coord x.frame.mode ≡ true → x.frame.counter ≡ counter_of c.count
   pub steady : IsSteady c.clocks s.active s.opposed

@@ -1,4 +1,4 @@
--- How a plan and the limits of one cycle say that the counter is corrected.
+-- The correction that follows from a plan and the limits of one cycle.
 use Rattle.std.specs.Prelude.{ℕ}
 use Rattle.sig_tables.specs.declared.tables.Tables.{Tables}
 use Rattle.sig_tables.specs.declared.plan.Plan.{Plan}
@@ -9,7 +9,7 @@ use Rattle.coord_count.specs.declared.limits.Limits.{Limits}
 abbrev pub limits_of : Tables → Limits
 limits_of t = record { mode = t.unit.mode; dwell = t.unit.dwell; add = t.unit.add; subtract = t.unit.subtract }
 
--- the correction under this plan within these limits
+-- the correction with this plan and these limits
 abbrev pub correction_in : Plan → Limits → Correction
 correction_in plan limits = record {
   cycle = plan.cycle;
@@ -20,7 +20,7 @@ correction_in plan limits = record {
   subtract = limits.subtract;
 }
 
--- the correction of a cycle by this mode within these limits, whatever their own mode is
+-- the correction of a cycle with this mode and these limits, regardless of their own mode
 abbrev pub correction_by : ℕ → Limits → ℕ → ℕ → Correction
 correction_by mode limits cycle window = record {
   cycle = cycle;

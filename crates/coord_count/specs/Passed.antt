@@ -1,7 +1,7 @@
--- A count over which ticks are passed at once.
+-- A count after skipped ticks.
 use Rattle.std.specs.Prelude.{ℕ, true, ◌+◌}
 use Rattle.coord_count.specs.declared.Count.{Count}
 
--- the count after N ticks more, at each of which the counter advanced by one
+-- the count after k more ticks, at each of which the counter advances by one
 abbrev pub passed : ℕ → Count → Count
 passed k c = record c { counter = c.counter + k; changed = true }

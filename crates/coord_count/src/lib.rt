@@ -43,6 +43,7 @@ impl Count {
     }
 
     /// A pattern is picked up: what was counted before is forgotten.
+    /// Here only tests call it; it is part of the public interface.
     pub fn pickup(&mut self)
         ensures picked_up { CountStands self.new (0 ∷ []) }
         ensures counter { counter_of self.new ≡ 0 }

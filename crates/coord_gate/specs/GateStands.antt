@@ -1,4 +1,4 @@
--- What a gate says of a pattern.
+-- What a gate represents: the times of a pattern.
 use Rattle.std.specs.Prelude.{ℕ, ◌≡◌}
 use Rattle.sig_tables.specs.declared.tables.Tables.{Tables}
 use Rattle.sig_tables.specs.Slots.{is_coordinated, least_service}

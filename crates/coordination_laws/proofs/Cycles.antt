@@ -6,8 +6,8 @@ use Rattle.sig_tables.specs.declared.tables.Tables.{Tables}
 use Rattle.sig_tables.specs.Counting.{Correction, HasRoom, next_counter, begins_cycle, last_counter, most_a_cycle}
 use Rattle.sig_tables.specs.Counters.{correction_of, counters_since}
 use Rattle.sig_tables.specs.Past.{Moment}
-use Rattle.offset_laws.specs.Stepping.{KeepsLimits, to_zero, StepsOn}
-use Rattle.offset_laws.proofs.AnyTarget.{steps-on}
+use Rattle.coordination_laws.specs.Stepping.{KeepsLimits, to_zero, StepsOn}
+use Rattle.coordination_laws.proofs.AnyTarget.{steps-on}
 use Rattle.plan_facts.specs.Disturbances.{Drift, is_disturbed, quiet_for}
 use Rattle.plan_facts.specs.Bounds.{longest_cycle}
 use Rattle.plan_facts.specs.Meets.{is_zero, has_zero, zero_within}

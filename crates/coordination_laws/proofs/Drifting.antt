@@ -5,12 +5,12 @@ use Rattle.std.proofs.Math.Nat.{mod-eq_of_lt, mod-add-mod}
 use Rattle.std.proofs.lemmas.Bool.{false≢true, cases_Bool, cases_lt, and_parts, leb-true, eqb-true}
 use Rattle.sig_tables.specs.Counting.{Correction, HasRoom, next_counter, last_counter, counted, target_after, tick_later, begins_cycle, needed, most_a_cycle}
 use Rattle.sig_tables.specs.Clock.{is_each}
-use Rattle.offset_laws.specs.Correcting.{ComesOntoOffset}
-use Rattle.offset_laws.proofs.Looks.{same}
-use Rattle.offset_laws.proofs.Resting.{gone}
-use Rattle.offset_laws.proofs.Onto.{gone-is, comes-onto}
-use Rattle.offset_laws.specs.Drifting.{Drift as Step, Even, Gains, moved, next_drifts, drifted, target_drifted, Spaced, CanCorrect, IsNear, StaysNear}
-use Rattle.offset_laws.proofs.Near.{meets-and-stays}
+use Rattle.coordination_laws.specs.Correcting.{ComesOntoOffset}
+use Rattle.coordination_laws.proofs.Looks.{same}
+use Rattle.coordination_laws.proofs.Resting.{gone}
+use Rattle.coordination_laws.proofs.Onto.{gone-is, comes-onto}
+use Rattle.coordination_laws.specs.Drifting.{Drift as Step, Even, Gains, moved, next_drifts, drifted, target_drifted, Spaced, CanCorrect, IsNear, StaysNear}
+use Rattle.coordination_laws.proofs.Near.{meets-and-stays}
 use Rattle.plan_facts.specs.Disturbances.{Drift, IsSlow, drift_gap, drifts}
 use Rattle.plan_facts.specs.Bounds.{cycles_for_one}
 use Rattle.coordination_laws.specs.Cycles.{step_of, step_at, steps_after, HasTime, are_near, ComesNear}

@@ -37,7 +37,7 @@ use Rattle.coordination_laws.specs.Search.{AnyMoment}
 use Rattle.plan_facts.specs.Disturbances.{Drift, drifts, rise, interrupts, is_disturbed, quiet_for}
 use Rattle.coordination_laws.specs.Versions.{greatest_at, HasYellow}
 use Rattle.coordination_laws.specs.Lasting.{SeekTick}
-use Rattle.offset_laws.specs.Drifting.{moved}
+use Rattle.coordination_laws.specs.Drifting.{moved}
 use Rattle.coordination_laws.specs.Cycles.{HasTime, step_at}
 use Rattle.coordination_laws.specs.Facts.{is_coord, SeekFacts, StepFacts, Tells, Elsewhere, Seeks, Steps}
 use Rattle.coordination_laws.specs.Goes.{CounterGoesOn}

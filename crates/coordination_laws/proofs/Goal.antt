@@ -16,7 +16,7 @@ use Rattle.sig_tables.specs.Looking.{run, latched, lasts, shows}
 use Rattle.sig_tables.specs.View.{View, on_phase, is_open, other_ring, is_startable}
 use Rattle.sig_tables.specs.Moves.{goal_moves, goal_ending_in, goal_beginning_in}
 use Rattle.sig_tables.proofs.Lasting.{lasts-counted}
-use Rattle.offset_laws.proofs.Looks.{fits}
+use Rattle.coordination_laws.proofs.Looks.{fits}
 use Rattle.tick_laws.proofs.Runs.{run-on, run-first}
 use Rattle.tick_laws.proofs.Others.{end-choice}
 use Rattle.tick_laws.proofs.Finding.{in-left, in-right, finds-only}

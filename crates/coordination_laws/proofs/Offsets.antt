@@ -9,11 +9,11 @@ use Rattle.sig_tables.specs.Counters.{correction_of, counters_since}
 use Rattle.sig_tables.specs.Slots.{cycle_time}
 use Rattle.sig_tables.specs.Past.{Moment}
 use Rattle.sig_tables.specs.Looking.{last_frame}
-use Rattle.offset_laws.proofs.Looks.{same, exceeds, fits}
-use Rattle.offset_laws.proofs.Onto.{gone-is}
-use Rattle.offset_laws.proofs.Sooner.{not-sooner, not-sooner-adding}
-use Rattle.offset_laws.specs.Drifting.{Drift as Step, Even, moved, drifted, target_drifted}
-use Rattle.offset_laws.proofs.Reaching.{shifted, shifted-at, drifted-more, target-more}
+use Rattle.coordination_laws.proofs.Looks.{same, exceeds, fits}
+use Rattle.coordination_laws.proofs.Onto.{gone-is}
+use Rattle.coordination_laws.proofs.Sooner.{not-sooner, not-sooner-adding}
+use Rattle.coordination_laws.specs.Drifting.{Drift as Step, Even, moved, drifted, target_drifted}
+use Rattle.coordination_laws.proofs.Reaching.{shifted, shifted-at, drifted-more, target-more}
 use Rattle.plan_facts.specs.Disturbances.{Drift, drifts, is_disturbed, quiet_for}
 use Rattle.plan_facts.specs.Bounds.{longest_cycle, shortest_cycle}
 use Rattle.plan_facts.specs.Meets.{is_zero, first_zero, has_zero, zero_target, is_met, is_near, holds_since, offset_within, can_follow}

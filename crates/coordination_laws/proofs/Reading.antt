@@ -5,9 +5,9 @@ use Rattle.sig_tables.specs.declared.tables.Tables.{Tables}
 use Rattle.sig_tables.specs.Slots.{is_defined, cycle_time}
 use Rattle.sig_tables.specs.Counting.{tick_later}
 use Rattle.sig_tables.specs.Past.{Moment}
-use Rattle.offset_laws.proofs.Looks.{fits}
-use Rattle.offset_laws.proofs.Steps.{later-within}
-use Rattle.offset_laws.specs.Drifting.{IsNear}
+use Rattle.coordination_laws.proofs.Looks.{fits}
+use Rattle.coordination_laws.proofs.Steps.{later-within}
+use Rattle.coordination_laws.specs.Drifting.{IsNear}
 use Rattle.plan_facts.specs.Disturbances.{Drift, drifts, quiet_for}
 use Rattle.plan_facts.specs.Bounds.{zero_bound, offset_bound}
 use Rattle.plan_facts.specs.Meets.{MeetsNow, is_zero, is_green, is_met, is_near, has_zero, zero_target, can_follow, holds_since}

@@ -7,7 +7,7 @@ use Rattle.sig_tables.specs.declared.tables.Tables.{Tables}
 use Rattle.sig_tables.specs.Slots.{is_defined, cycle_time}
 use Rattle.sig_tables.specs.Clock.{day, is_each, offset_time, shift_time, target_at}
 use Rattle.sig_tables.specs.Past.{Moment}
-use Rattle.offset_laws.specs.Drifting.{moved}
+use Rattle.coordination_laws.specs.Drifting.{moved}
 use Rattle.plan_facts.specs.Disturbances.{Drift, rise, is_reset, passes_midnight, moves_at_midnight, interrupts, differs, is_out, is_disturbed}
 use Rattle.coordination_laws.specs.Cycles.{step_of, step_at}
 use Rattle.coordination_laws.specs.Goes.{CounterGoesOn}

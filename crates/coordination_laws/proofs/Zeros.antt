@@ -8,7 +8,7 @@ use Rattle.sig_tables.specs.Counting.{changes_to_zero}
 use Rattle.sig_tables.specs.Counters.{counters_since}
 use Rattle.sig_tables.specs.Walking.{is_local_zero}
 use Rattle.sig_tables.specs.Past.{Moment}
-use Rattle.offset_laws.proofs.Looks.{same}
+use Rattle.coordination_laws.proofs.Looks.{same}
 use Rattle.plan_facts.specs.Disturbances.{Drift, is_disturbed, quiet_for}
 use Rattle.plan_facts.specs.Meets.{is_zero, is_some, zero_or_now, first_zero, has_zero}
 

@@ -1,5 +1,5 @@
--- Ticks coordinated in a pattern, as the counter sees them: from a pickup or a disturbance to the next local zero, and
--- from the first local zero onto the offset.
+-- Ticks coordinated in a pattern, as counters: from a pickup or a disturbance to the next local zero, and from the
+-- first local zero until the cabinet is on offset.
 use Rattle.std.specs.Prelude.{ℕ, Bool, true, false, ◌≡◌, ◌⊎◌, ◌≤◌, ◌<◌, ◌+◌, ◌*◌, ◌==◌, ◌&&◌, ◌||◌, List, [], ◌∷◌}
 use Rattle.sig_types.specs.declared.frame.Mode.TheVariants.{Coord}
 use Rattle.sig_tables.specs.declared.tables.Tables.{Tables}
@@ -10,65 +10,65 @@ use Rattle.sig_tables.specs.Clock.{is_each}
 use Rattle.sig_tables.specs.Slots.{cycle_time}
 use Rattle.sig_tables.specs.Past.{Moment}
 use Rattle.sig_tables.specs.Looking.{last_frame}
-use Rattle.offset_laws.specs.Stepping.{KeepsLimits, to_zero}
-use Rattle.offset_laws.specs.Drifting.{Drift as Step, Even, Gains, Loses, drifted, target_drifted}
+use Rattle.coordination_laws.specs.Stepping.{KeepsLimits, to_zero}
+use Rattle.coordination_laws.specs.Drifting.{Drift as Step, Even, Gains, Loses, drifted, target_drifted}
 use Rattle.plan_facts.specs.Disturbances.{Drift, IsSlow, drift_gap, drifts, quiet_for}
 use Rattle.plan_facts.specs.Bounds.{longest_cycle, cycles_for_one}
 use Rattle.plan_facts.specs.Meets.{first_zero, has_zero, holds_since, can_follow}
 
--- the counters of the last frames in a row coordinated in pattern n, in the version of the last
+-- the counters of the last frames in a row in Coord of pattern n, with the version of the last frame
 abbrev pub counters : ℕ → List Moment → List ℕ
 counters n past = counters_since n (last_frame past).version past
 
--- moment m continues coordinated in pattern n after the moments l ∷ past, and its counter is the next one
+-- moment m stays in Coord of pattern n after moment l, and its counter is the next one
 pub record CountsOn (t : Tables) (n : ℕ) (m l : Moment) (past : List Moment) : Type 0 where
   pub mode : m.frame.mode ≡ Coord n
   pub before : l.frame.mode ≡ Coord n
   pub version : m.frame.version ≡ l.frame.version
   pub counter : m.frame.counter ≡ next_counter (correction_of t n) (counters n (l ∷ past)) m.frame.target
 
--- moment m, after l, is a pickup of pattern n
+-- moment m, after moment l, is a pickup of pattern n
 pub record PicksUp (n : ℕ) (m l : Moment) : Type 0 where
   pub mode : m.frame.mode ≡ Coord n
   pub apart : (l.frame.version == m.frame.version && same_mode l.frame.mode (Coord n)) ≡ false
   pub counter : m.frame.counter ≡ 0
 
--- coordinated in pattern n: the limits of a cycle are kept, and a local zero has come since the last disturbance or is
--- still expected
+-- in Coord of pattern n: the counter keeps the limits of a cycle. There has been a local zero since the last
+-- disturbance, or one will occur within the longest cycle after it
 pub record InCycle (d : Drift) (t : Tables) (n : ℕ) (past : List Moment) : Type 0 where
   pub mode : (last_frame past).mode ≡ Coord n
   pub limits : KeepsLimits (correction_of t n) (counters n past)
   pub due : (has_zero d past ≡ true) ⊎ (quiet_for d past + to_zero (correction_of t n) (counters n past) ≤ longest_cycle t n)
 
--- what the clock does at a tick at which it is to gain, or to lose; where both, it keeps time
+-- what the clock does at a tick at which it should gain or lose; if it should do both, it advances by one tick
 abbrev pub step_of : Bool → Bool → Step
 step_of true true = Even
 step_of true false = Gains
 step_of false true = Loses
 step_of false false = Even
 
--- what it does at the tick of this number
+-- what the clock does at the tick with this number
 abbrev pub step_at : Drift → ℕ → Step
 step_at d number = step_of (is_each d.gain number) (is_each d.lose number)
 
--- what it does at each tick after the one of this number
+-- what the clock does at each tick after the one with this number; i counts them from 0
 abbrev pub steps_after : Drift → ℕ → ℕ → Step
 steps_after d number i = step_at d (number + 1 + i)
 
--- between two ticks at which the clock gains or loses there is time for two of the longest cycles, and what one cycle adds is
--- shorter than the cycle
+-- between two ticks at which the clock gains or loses there is time for two of the longest cycles, and what one cycle
+-- adds is shorter than the cycle
 pub record HasTime (d : Drift) (k : Correction) : Type 0 where
   pub slow : IsSlow d
   pub add : k.add + 1 < k.cycle
   pub cycles : 2 * (k.cycle + most_a_cycle k) + 1 ≤ drift_gap
 
--- counter and target are equal; with a clock that drifts they may be one tick apart, round the cycle
+-- the counter equals the target; if the clock drifts, they may differ by one tick, modulo the cycle
 abbrev pub are_near : Drift → ℕ → ℕ → ℕ → Bool
 are_near d cycle counter target =
     counter == target || drifts d && (tick_later cycle counter == target || tick_later cycle target == counter)
 
--- after the tick of this number, at which a cycle begins with this target, counter and target are equal within that
--- many ticks, and near from then on
+-- at the tick with this number a cycle begins with this target. Counter and target become equal within `most` ticks,
+-- and stay near each other from then on
 pub record ComesNear (d : Drift) (k : Correction) (number : ℕ) (past : List ℕ) (target most : ℕ) : Type 0 where
   pub moment : ℕ
   pub within : moment ≤ most
@@ -82,13 +82,13 @@ abbrev pub last_number : List Moment → ℕ
 last_number [] = 0
 last_number (m ∷ past) = m.number
 
--- how many ticks the cycles take at their longest that are needed from a local zero with this target
+-- the ticks of the cycles that are needed from a local zero with this target, each as long as the longest cycle
 abbrev pub cycles_needed : Drift → Tables → ℕ → ℕ → ℕ
 cycles_needed d t n target = cycles_for_one d * needed (correction_of t n) target * longest_cycle t n
 
--- since the first local zero after the last disturbance, which came within that many ticks, the counter has been
--- corrected tick by tick, and the target has continued as the clock does; where the correction can follow the clock,
--- they meet within the cycles needed, and once they have they are held
+-- the state since the first local zero after the last disturbance, which occurred within `most` ticks. The counter has
+-- been corrected at each tick, and the target has followed the clock. If the correction can follow the clock, they
+-- become equal within the needed cycles and stay near each other
 pub record OnPath (d : Drift) (t : Tables) (n most : ℕ) (past : List Moment) : Type 0 where
   pub mode : (last_frame past).mode ≡ Coord n
   pub zero : has_zero d past ≡ true

@@ -1,5 +1,5 @@
--- What is known of each tick of a cabinet whose clock drifts as is said, and what of that is carried along: so that the
--- history meets what coordination promises. If the clock shows a different time, it counts as one that was set.
+-- What is known of each tick of a cabinet whose clock has a given drift, and what each tick hands on to the next. So
+-- the history keeps what coordination promises. A clock that shows an unexpected time counts as a clock that was set.
 use Rattle.std.specs.Prelude.{ℕ, Bool, true, false, ◌≡◌, ◌⊎◌, ◌≤◌, ◌<◌, ◌+◌, ◌==◌, ◌&&◌, List, [], ◌∷◌}
 use Rattle.sig_types.specs.declared.frame.Mode.{Mode}
 use Rattle.sig_types.specs.declared.frame.Mode.TheVariants.{Seek, Coord}
@@ -16,7 +16,7 @@ use Rattle.sig_tables.specs.Past.{Moment}
 use Rattle.sig_tables.specs.Looking.{last_frame}
 use Rattle.coordination_laws.specs.Search.{AnyMoment}
 use Rattle.tick_laws.specs.Zero.{HoldsPair, PlanServes, TimesServe, InTime, ZeroHolds}
-use Rattle.offset_laws.specs.Drifting.{moved}
+use Rattle.coordination_laws.specs.Drifting.{moved}
 use Rattle.plan_facts.specs.Disturbances.{Drift, drifts, is_disturbed, quiet_for}
 use Rattle.plan_facts.specs.Greatest.{pickup_bound}
 use Rattle.plan_facts.specs.Bounds.{zero_bound}
@@ -25,12 +25,12 @@ use Rattle.coordination_laws.specs.Versions.{IsVersion, greatest_at, HasYellow}
 use Rattle.coordination_laws.specs.Lasting.{SeekTick, Searches, StepTick}
 use Rattle.coordination_laws.specs.Cycles.{CountsOn, InCycle, HasTime, step_at, OnPath}
 
--- the mode is coordinated in a pattern
+-- the mode is Coord
 abbrev pub is_coord : Mode → Bool
 is_coord (Coord n) = true
 is_coord mode = false
 
--- what is known of a tick that seeks pattern n or picks it up, moment m after l ∷ past
+-- what is known of a tick that seeks pattern n or picks it up: moment m after the moments l ∷ past
 pub record SeekFacts (d : Drift) (n : ℕ) (m l : Moment) (past : List Moment) : Type 0 where
   pub command : m.command ≡ n
   pub apart : (l.frame.version == m.frame.version && same_mode l.frame.mode (Coord n)) ≡ false
@@ -46,7 +46,7 @@ pub record SeekFacts (d : Drift) (n : ℕ) (m l : Moment) (past : List Moment) :
   pub alone : are_coordinated_green m.tables n m.frame.veh ≡ true → ZeroHolds m.tables n m
   pub tick : (quiet_for d (m ∷ l ∷ past) ≤ 1) ⊎ ((l.frame.mode ≡ Seek n) × SeekTick m.tables n m l past)
 
--- what is known of a tick coordinated in pattern n after one coordinated in it
+-- what is known of a tick in Coord of pattern n that follows one in Coord of it
 pub record StepFacts (d : Drift) (n : ℕ) (m l : Moment) (past : List Moment) : Type 0 where
   pub command : m.command ≡ n
   pub number : m.number ≡ l.number + 1
@@ -61,21 +61,21 @@ pub record StepFacts (d : Drift) (n : ℕ) (m l : Moment) (past : List Moment) :
   pub plan : PlanServes m.tables n
   pub times : TimesServe m.tables n
 
--- a tick seeks the pattern in command or picks it up, is coordinated in it, or does neither: then none is defined, or
--- it is a disturbance
+-- the kinds of a tick: it seeks or picks up the commanded pattern, it stays in Coord of it, or it does neither. In the
+-- last case the commanded pattern isn't defined, or the tick is a disturbance
 pub data Tells (d : Drift) (m l : Moment) (past : List Moment) : Type 0 where
   Elsewhere : (mode : is_coord m.frame.mode ≡ false) → (idle : (is_defined m.tables m.command ≡ false) ⊎ (is_disturbed d (m ∷ l ∷ past) ≡ true))
       → (free : (n : ℕ) → m.frame.mode ≡ Seek n → ⊥) → Tells d m l past
   Seeks : (facts : SeekFacts d m.command m l past) → Tells d m l past
   Steps : (facts : StepFacts d m.command m l past) → Tells d m l past
 
--- this is known of each tick, from the moment before any tick on, which neither seeks a pattern nor is coordinated
+-- each tick is of one of these kinds; the moment before any tick is neither in Seek nor in Coord
 abbrev pub TellsEach : Drift → List Moment → Type 0
 TellsEach d [] = ⊥
 TellsEach d (m ∷ []) = (is_coord m.frame.mode ≡ false) × ((n : ℕ) → m.frame.mode ≡ Seek n → ⊥)
 TellsEach d (m ∷ l ∷ past) = Tells d m l past × TellsEach d (l ∷ past)
 
--- what is carried along of a search
+-- what each tick hands on while the cabinet seeks a pattern
 pub record Seeking (d : Drift) (t : Tables) (n : ℕ) (past : List Moment) : Type 0 where
   pub start : List Moment
   pub ticks : ℕ
@@ -88,14 +88,14 @@ pub record Seeking (d : Drift) (t : Tables) (n : ℕ) (past : List Moment) : Typ
   pub none : has_zero d past ≡ false
   pub soon : quiet_for d past < pickup_bound past
 
--- what is carried along while coordinated
+-- what each tick hands on while the cabinet is coordinated in a pattern
 pub record InStep (d : Drift) (t : Tables) (n : ℕ) (past : List Moment) : Type 0 where
   pub room : HasRoom (correction_of t n)
   pub cycle : InCycle d t n past
   pub time : InTime t n (last_frame past).counter past
   pub path : has_zero d past ≡ true → OnPath d t n (zero_bound past t n) past
 
--- what is carried along, by the mode of the last moment
+-- what each tick hands on, by the mode of the last moment
 pub record Carried (d : Drift) (m : Moment) (past : List Moment) : Type 0 where
   pub seeking : (n : ℕ) → m.frame.mode ≡ Seek n → Seeking d m.tables n (m ∷ past)
   pub in_step : (n : ℕ) → m.frame.mode ≡ Coord n → InStep d m.tables n (m ∷ past)

@@ -1,4 +1,4 @@
--- Ticks in a row of one version: those of a search for a pattern, and those coordinated in it.
+-- Ticks in a row under one version of the tables: those that seek a pattern, and those coordinated in it.
 use Rattle.std.specs.Prelude.{ℕ, zero, suc, ◌≡◌, List, [], ◌∷◌}
 use Rattle.sig_tables.specs.declared.tables.Tables.{Tables}
 use Rattle.sig_tables.specs.View.{View}
@@ -8,7 +8,7 @@ use Rattle.sig_tables.specs.Goals.{goal_in}
 use Rattle.coordination_laws.specs.Search.{Sought, Gives as SearchGives}
 use Rattle.tick_laws.specs.Zero.{Sees, Gives, ZeroHolds}
 
--- moment m is given by a tick that seeks pattern n, after the moments l ∷ past
+-- moment m is that of a tick that seeks pattern n, after the moments l ∷ past
 pub record SeekTick (t : Tables) (n : ℕ) (m l : Moment) (past : List Moment) : Type 0 where
   pub view : View
   pub tables : view.tables ≡ t
@@ -16,14 +16,14 @@ pub record SeekTick (t : Tables) (n : ℕ) (m l : Moment) (past : List Moment) :
   pub sought : Sought view n (goal_in t (Seek n))
   pub gives : SearchGives view (goal_in t (Seek n)) m
 
--- after `start` that many ticks have sought pattern n
+-- since the moments `start`, this number of ticks have sought pattern n
 abbrev pub Searches : Tables → ℕ → List Moment → ℕ → List Moment → Type 0
 Searches t n start zero now = now ≡ start
 Searches t n start (suc k) [] = ⊥
 Searches t n start (suc k) (m ∷ []) = ⊥
 Searches t n start (suc k) (m ∷ l ∷ past) = SeekTick t n m l past × Searches t n start k (l ∷ past)
 
--- moment m is given by a tick coordinated in pattern n, after the moments l ∷ past
+-- moment m is that of a tick coordinated in pattern n, after the moments l ∷ past
 pub record StepTick (t : Tables) (n : ℕ) (m l : Moment) (past : List Moment) : Type 0 where
   pub view : View
   pub tables : view.tables ≡ t
@@ -32,15 +32,14 @@ pub record StepTick (t : Tables) (n : ℕ) (m l : Moment) (past : List Moment) :
   pub gives : Gives view n l.frame.counter m
   pub counter : m.frame.counter ≡ view.counter
 
--- after `start` that many ticks have been coordinated in pattern n
+-- since the moments `start`, this number of ticks have been coordinated in pattern n
 abbrev pub RunsInStep : Tables → ℕ → List Moment → ℕ → List Moment → Type 0
 RunsInStep t n start zero now = now ≡ start
 RunsInStep t n start (suc k) [] = ⊥
 RunsInStep t n start (suc k) (m ∷ []) = ⊥
 RunsInStep t n start (suc k) (m ∷ l ∷ past) = StepTick t n m l past × RunsInStep t n start k (l ∷ past)
 
--- wherever the counter was 0 at one of the last that many moments, both coordinated phases were Green and every other
--- Red
+-- at each of this number of last moments with counter 0, both coordinated phases are Green and every other phase is Red
 abbrev pub EachZeroHolds : Tables → ℕ → ℕ → List Moment → Type 0
 EachZeroHolds t n zero now = Unit {0}
 EachZeroHolds t n (suc k) [] = Unit {0}

@@ -6,3 +6,8 @@ pub mod Facts
 pub mod Goes
 pub mod MomentTold
 pub mod Ranged
+pub mod Correcting
+pub mod Stepping
+pub mod Known
+pub mod Drifting
+pub mod KnownDrift

@@ -1,12 +1,11 @@
--- Histories whose tables hold in each row what is allowed there, so that no cycle is longer than the steps of a slow
--- drift allow.
+-- Histories whose tables have only allowed values, so that no cycle is too long for a slow drift.
 use Rattle.std.specs.Prelude.{List}
 use Rattle.sig_tables.specs.declared.tables.Tables.{Tables}
 use Rattle.sig_tables.specs.InRange.{InRange}
 use Rattle.sig_tables.specs.Events.{EachEvent}
 use Rattle.sig_tables.specs.Past.{Event, Install}
 
--- tables that an event puts in force are in range
+-- if the event puts tables in force, they are in range
 abbrev pub PutsInRange : List Event → Event → Type 0
 PutsInRange before (Install t) = InRange t
 PutsInRange before _ = Unit {0}

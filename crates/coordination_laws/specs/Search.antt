@@ -1,5 +1,5 @@
--- The search for a pattern: how long it may last until both coordinated phases are Green. `ticks` counts those since the last
--- disturbance; the tables of the cabinet give a greatest service, clearance and red revert.
+-- The search for a pattern: how long it may last until both coordinated phases are Green. `ticks` counts the ticks
+-- since the last disturbance. The tables of the cabinet bound service, clearance and red revert.
 use Rattle.std.specs.Prelude.{ℕ, true, false, ◌≡◌, ◌≢◌, ◌⊎◌, ◌≤◌, ◌+◌, ◌-◌, List}
 use Rattle.sig_types.specs.declared.frame.Colour.{Colour}
 use Rattle.sig_types.specs.declared.frame.Colour.TheVariants.{Green, Yellow, Clear, Red}
@@ -17,7 +17,8 @@ use Rattle.sig_tables.specs.View.{View, on_phase}
 use Rattle.sig_tables.specs.Moves.{goal_moves}
 use Rattle.sig_tables.specs.Decide.{colour_after}
 
--- the greatest times of one phase over the tables so far, column by column, and those of the cabinet
+-- bounds for the times of one phase over all tables so far: its own times, and service, clearance and red revert of the
+-- whole cabinet
 pub record Greatest : Type 0 where
   pub walk : ℕ
   pub flash : ℕ
@@ -32,7 +33,7 @@ pub record Sums (g : Greatest) : Type 0 where
   pub clearance : g.yellow + g.red ≤ g.clear
   pub some : 1 ≤ g.revert
 
--- tables keep these times for phase p
+-- the tables keep these bounds for phase p
 pub record GreatestKeeps (g : Greatest) (t : Tables) (p : ℕ) : Type 0 where
   pub least : least_green t p ≤ g.service
   pub walk : walk_time t p ≤ g.walk
@@ -42,7 +43,7 @@ pub record GreatestKeeps (g : Greatest) (t : Tables) (p : ℕ) : Type 0 where
   pub revert : red_revert_time t p ≤ g.revert
   pub some : 1 ≤ yellow_time t p
 
--- ---- a phase outside the goal, that many ticks after the last disturbance
+-- the conditions on a phase outside the goal, by its colour, `ticks` ticks after the last disturbance
 pub record OutGreen (g : Greatest) (t : Tables) (p ticks : ℕ) (past : List Moment) : Type 0 where
   pub ran : ticks + 1 ≤ run p Green past
   pub least : least_green (latched p Green t past) p ≤ g.service
@@ -62,7 +63,7 @@ OutStands g t p ticks past Yellow = OutYellow g t p ticks past
 OutStands g t p ticks past Clear = OutClear g t p ticks past
 OutStands g t p ticks past Red = Unit {0}
 
--- its signal
+-- the conditions on a phase outside the goal, by its pedestrian signal
 pub record OutWalk (g : Greatest) (t : Tables) (p ticks : ℕ) (past : List Moment) : Type 0 where
   pub ran : ticks + 1 ≤ signal_run p Walk past
   pub within : signal_run p Walk past ≤ walk_time (signal_latched p Walk t past) p
@@ -78,7 +79,7 @@ OutSignal g t p ticks past Walk = OutWalk g t p ticks past
 OutSignal g t p ticks past Flash = OutFlash g t p ticks past
 OutSignal g t p ticks past Dont = Unit {0}
 
--- ---- a phase of the goal
+-- the conditions on a phase of the goal, by its colour
 pub record GoalYellow (g : Greatest) (t : Tables) (p ticks : ℕ) (past : List Moment) : Type 0 where
   pub rest : ticks + (yellow_time (latched p Yellow t past) p + 1 - run p Yellow past) + g.red ≤ g.clear
   pub within : run p Yellow past ≤ yellow_time (latched p Yellow t past) p
@@ -93,7 +94,7 @@ GoalStands g t p ticks past Yellow = GoalYellow g t p ticks past
 GoalStands g t p ticks past Clear = GoalClear g t p ticks past
 GoalStands g t p ticks past Red = red_revert_time t p + ticks + 1 ≤ run p Red past + g.clear + g.revert
 
--- ---- a tick of the search
+-- a tick of the search: what it sees, and what it gives for a phase
 pub record Sought (v : View) (n : ℕ) (goal : List ℕ) : Type 0 where
   pub mode : v.mode ≡ Seek n
   pub frame : v.frame ≡ last_frame v.past
@@ -109,13 +110,13 @@ pub record Found (v : View) (goal : List ℕ) (p : ℕ) (m : Moment) : Type 0 wh
   pub tables : m.tables ≡ v.tables
   pub colour : colour_of m.frame p ≡ colour_after (goal_moves v goal) p v.tables v.past (colour_of (last_frame v.past) p)
 
--- every phase, N ticks after the last disturbance: those outside the goal with their signals, and those of the goal
+-- the conditions on every phase, `ticks` ticks after the last disturbance
 pub record InSearch (g : ℕ → Greatest) (t : Tables) (goal : List ℕ) (ticks : ℕ) (past : List Moment) : Type 0 where
   pub outside : (p : ℕ) → is_enabled t p ≡ true → is_in goal p ≡ false → OutStands (g p) t p ticks past (colour_of (last_frame past) p)
   pub signals : (p : ℕ) → is_enabled t p ≡ true → is_in goal p ≡ false → OutSignal (g p) t p ticks past (signal_of (last_frame past) p)
   pub inside : (q : ℕ) → is_in goal q ≡ true → GoalStands (g q) t q ticks past (colour_of (last_frame past) q)
 
--- the tables keep the greatest times
+-- the tables keep the bounds for every enabled phase
 pub record KeepsEach (g : ℕ → Greatest) (t : Tables) : Type 0 where
   pub sums : (p : ℕ) → Sums (g p)
   pub each : (p : ℕ) → is_enabled t p ≡ true → GreatestKeeps (g p) t p
@@ -126,13 +127,13 @@ pub record Gives (v : View) (goal : List ℕ) (m : Moment) : Type 0 where
   pub signals : (p : ℕ) → is_enabled v.tables p ≡ true → is_in goal p ≡ false
       → signal_of m.frame p ≡ signal_runs_on p v.tables v.past (signal_of (last_frame v.past) p)
 
--- the greatest service, clearance and red revert are over
+-- more ticks have passed than the bounds for service, clearance and red revert allow
 pub record IsLate (g : ℕ → Greatest) (ticks : ℕ) : Type 0 where
   pub outside : (p : ℕ) → (g p).service + (g p).clear + 1 ≤ ticks
   pub goal : (p : ℕ) → (g p).clear + (g p).revert ≤ ticks + 1
 
--- what any moment shows of a phase, whatever came before it: each interval under way has begun and has not outlasted its time, and
--- that time is no more than the greatest
+-- what is true of any moment: each interval under way has begun, has not exceeded its time, and its time keeps the
+-- bounds
 abbrev pub Runs : Greatest → Tables → ℕ → List Moment → Colour → Type 0
 Runs g t p past Green = (1 ≤ run p Green past) × (least_green (latched p Green t past) p ≤ g.service)
 Runs g t p past Yellow = (1 ≤ run p Yellow past) × (run p Yellow past ≤ yellow_time (latched p Yellow t past) p)

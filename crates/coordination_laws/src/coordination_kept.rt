@@ -7,7 +7,7 @@ ghost use Rattle.sig_tables.specs.Slots.{cycle_time};
 ghost use Rattle.sig_tables.specs.Clock.{day, target_at};
 ghost use Rattle.sig_tables.specs.Decide.{past_at};
 ghost use Rattle.sig_tables.specs.Past.{Moment, History, first_moment};
-ghost use Rattle.offset_laws.specs.Drifting.{moved};
+ghost use Rattle.coordination_laws.specs.Drifting.{moved};
 ghost use Rattle.plan_facts.specs.Disturbances.{Drift, drifts, drift_of, no_drift, rise, is_disturbed};
 ghost use Rattle.plan_facts.specs.Meets.{MeetsEach, Meets, NotSooner};
 ghost use Rattle.coordination_laws.specs.Cycles.{step_at};

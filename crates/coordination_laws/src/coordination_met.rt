@@ -7,7 +7,7 @@ ghost use Rattle.sig_tables.specs.Past.{Moment, History};
 ghost use Rattle.sig_tables.specs.Decide.{past_at, since_opening};
 ghost use Rattle.tick_laws.specs.Lawful.{Lawful};
 ghost use Rattle.rule_facts.specs.Admitted.{Admitted};
-ghost use Rattle.offset_laws.specs.Drifting.{IsNear};
+ghost use Rattle.coordination_laws.specs.Drifting.{IsNear};
 ghost use Rattle.plan_facts.specs.Disturbances.{Drift, IsSlow, drift_of, no_drift, drifts, quiet_for};
 ghost use Rattle.plan_facts.specs.Bounds.{zero_bound, offset_bound};
 ghost use Rattle.plan_facts.specs.Meets.{MeetsNow, MeetsEach, Meets, is_zero, is_green, has_zero, zero_target, can_follow, NotSooner};

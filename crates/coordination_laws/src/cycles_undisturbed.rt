@@ -8,7 +8,7 @@ ghost use Rattle.sig_tables.specs.Counters.{correction_of};
 ghost use Rattle.sig_types.specs.declared.frame.Mode.TheVariants.{Coord};
 ghost use Rattle.sig_tables.specs.Slots.{cycle_time};
 ghost use Rattle.sig_tables.specs.Past.{Moment};
-ghost use Rattle.offset_laws.specs.Drifting.{moved};
+ghost use Rattle.coordination_laws.specs.Drifting.{moved};
 ghost use Rattle.plan_facts.specs.Disturbances.{Drift, drifts, is_disturbed, quiet_for};
 ghost use Rattle.plan_facts.specs.Bounds.{longest_cycle, shortest_cycle};
 ghost use Rattle.plan_facts.specs.Meets.{is_zero, first_zero, has_zero, zero_target, zero_within, offset_within, can_follow};

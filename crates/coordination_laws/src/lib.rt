@@ -1,11 +1,15 @@
 //! Coordination over histories: a seek for a pattern ends in time, a coordinated cabinet keeps its offset, and what
 //! follows from both for a history that nothing disturbs (FHWA Signal Timing Manual: transition into coordination). The
 //! functions have no bodies: their contracts are the laws, which callers cite.
+//! The module `offset` has the laws of offset correction, in numbers.
 #![tactic(auto)]
 
 mod coordination_kept;
 mod coordination_met;
 mod cycles_undisturbed;
+mod drift_held;
+mod known;
+mod offset;
 mod sought_in_time;
 
 ghost use Rattle.std.specs.Prelude.{ℕ, ◌≡◌, ◌+◌, ◌∷◌, List, true};
@@ -21,6 +25,11 @@ ghost use Rattle.coordination_laws.specs.Search.{Greatest, Sought, InSearch, Kee
 pub use coordination_kept::{promise_kept, quiet_tells};
 pub use coordination_met::{coordination_is_met, offset_is_met_no_sooner, promise_reads};
 pub use cycles_undisturbed::{offset_met_in_time, zero_comes_in_time};
+pub use drift_held::{
+    drift_is_held, gains_are_not_dwelt_away, held_as_computed, quick_drift_is_not_held,
+};
+pub use known::{late_without_room, met_as_computed};
+pub use offset::{local_zero_comes, offset_is_met};
 pub use sought_in_time::{greatest_times, search_lasts, steps_last};
 
 /// From whatever a cabinet shows when a pattern is commanded, the phases that the pattern does not hold are served and clear

@@ -5,6 +5,7 @@ use Rattle.detector_bank.specs.declared.bank.Detector.{Detector}
 use Rattle.detector_bank.specs.declared.bank.Pulse.{Pulse}
 use Rattle.detector_bank.specs.declared.watch.Taken.{Taken}
 use Rattle.detector_bank.specs.Pulses.{is_of, flags_of, after, any_on, some_pulse, edges_from}
+use Rattle.detector_bank.proofs.Reaching.{or-none}
 
 -- the pulses before a place were taken
 pub record Took (d : Detector) (span : List Pulse) (on : Bool) (i : ℕ) (t : Taken) : Type 0 where
@@ -68,10 +69,6 @@ zero-plus n = omega arith
 
 pub took-start : (d : Detector) (span : List Pulse) (on : Bool) → Took d span on 0 (record { on = on; some = false; had_on = false; edges = 0 })
 took-start d span on = record { few = omega arith; state = refl; some = refl; had_on = refl; edges = zero-plus (edges_from on (flags_of d span)) }
-
-or-none : (b : Bool) → (b || false) ≡ b
-or-none true = refl
-or-none false = refl
 
 plus-none : (n : ℕ) → n + 0 ≡ n
 plus-none n = omega arith

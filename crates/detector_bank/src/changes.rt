@@ -131,17 +131,14 @@ fn push_phases(
     }
     for done in 0..16u8 {
         let phase = done + 1;
-        match push_change(
+        push_change(
             calls,
             round,
             cabinet,
             phase,
             now.has(phase),
             before.has(phase),
-        ) {
-            Ok(()) => {}
-            Err(NoMemory) => return Err(NoMemory),
-        }
+        )?;
     }
     Ok(())
 }
@@ -157,10 +154,7 @@ pub(crate) fn push_changes(
         → calls.new.items ≡ calls.old.items ++ round_changes ds ps j) }
 {
     for done in 0..64usize {
-        match push_phases(calls, round, done as u32 + 1, now[done], before[done]) {
-            Ok(()) => {}
-            Err(NoMemory) => return Err(NoMemory),
-        }
+        push_phases(calls, round, done as u32 + 1, now[done], before[done])?;
     }
     Ok(())
 }

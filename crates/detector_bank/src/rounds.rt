@@ -24,19 +24,13 @@ pub fn bank_calls(
     requires short { rounds ≤ 86400 }
     ensures { IfOk result (λ calls. calls.items ≡ calls_until bank.now.items pulses.now.items rounds) }
 {
-    let mut walk = match start(alloc, bank, pulses) {
-        Ok(walk) => walk,
-        Err(NoMemory) => return Err(NoMemory),
-    };
+    let mut walk = start(alloc, bank, pulses)?;
     let mut calling = Calling::new();
     let mut before = calling.sets;
     let mut calls = Vec::new(alloc);
     for done in 0..rounds {
         call_round(&mut walk, &mut calling, bank, done + 1);
-        match push_changes(&mut calls, done + 1, &calling.sets, &before) {
-            Ok(()) => {}
-            Err(NoMemory) => return Err(NoMemory),
-        }
+        push_changes(&mut calls, done + 1, &calling.sets, &before)?;
         before = calling.sets;
     }
     Ok(calls)
@@ -54,20 +48,11 @@ pub fn edges(
     requires short { rounds ≤ 86400 }
     ensures { IfOk result (λ edges. edges.items ≡ edges_until (in_order bank.now.items) pulses.now.items rounds) }
 {
-    let ordered = match in_order(alloc, bank) {
-        Ok(ordered) => ordered,
-        Err(NoMemory) => return Err(NoMemory),
-    };
-    let mut walk = match start(alloc, &ordered, pulses) {
-        Ok(walk) => walk,
-        Err(NoMemory) => return Err(NoMemory),
-    };
+    let ordered = in_order(alloc, bank)?;
+    let mut walk = start(alloc, &ordered, pulses)?;
     let mut edges = Vec::new(alloc);
     for done in 0..rounds {
-        match edge_round(&mut walk, &mut edges, &ordered, done + 1) {
-            Ok(()) => {}
-            Err(NoMemory) => return Err(NoMemory),
-        }
+        edge_round(&mut walk, &mut edges, &ordered, done + 1)?;
     }
     Ok(edges)
 }

@@ -54,14 +54,8 @@ pub fn start(alloc: Global, bank: &Vec<Detector>, pulses: &Vec<Pulse>) -> Result
     ensures stands { IfOk result (λ walk. WalkStands walk bank.now.items pulses.now.items 0) }
     ensures none { IfOk result (λ walk. (k : ℕ) (p : DetectorStateRow) → k < length walk.detector_states.items → (get_or walk.detector_states.items k p).calls ≡ false) }
 {
-    let sorted = match sorted_pulses(alloc, pulses.as_slice()) {
-        Ok(sorted) => sorted,
-        Err(NoMemory) => return Err(NoMemory),
-    };
-    let detector_states = match detector_states_of(alloc, bank, sorted.as_slice()) {
-        Ok(detector_states) => detector_states,
-        Err(NoMemory) => return Err(NoMemory),
-    };
+    let sorted = sorted_pulses(alloc, pulses.as_slice())?;
+    let detector_states = detector_states_of(alloc, bank, sorted.as_slice())?;
     match vec![in alloc; 0u32; bank.len()] {
         Ok(dues) => Ok(Walk {
             sorted,
@@ -137,10 +131,7 @@ fn edge_at(
         return Ok(());
     }
     look(walk, detector, k, round);
-    match push_edge(edges, detector, &walk.detector_states[k].watch, round) {
-        Ok(()) => Ok(()),
-        Err(NoMemory) => Err(NoMemory),
-    }
+    push_edge(edges, detector, &walk.detector_states[k].watch, round)
 }
 
 /// One round more of a bank, with the edges of its detectors.
@@ -156,10 +147,7 @@ pub(crate) fn edge_round(
     ensures edges { OnOk result ((ps : List PulseRow) (j : ℕ) → round ≡ j + 1 → WalkStands walk.old bank.now.items ps j → edges.new.items ≡ edges.old.items ++ round_edges ps round bank.now.items) }
 {
     for k in 0..bank.len() {
-        match edge_at(walk, edges, &bank[k], k, round) {
-            Ok(()) => {}
-            Err(NoMemory) => return Err(NoMemory),
-        }
+        edge_at(walk, edges, &bank[k], k, round)?;
     }
     Ok(())
 }

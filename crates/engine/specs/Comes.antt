@@ -1,4 +1,4 @@
--- The frame that a tick gives, and what of the last frame stays in it.
+-- The frame that a tick gives, and which parts of it are those of the last frame.
 use Rattle.std.specs.Prelude.{◌≡◌, true}
 use Rattle.sig_tables.specs.Past.{Past}
 use Rattle.sig_tables.specs.Decide.{next_moment}
@@ -6,7 +6,8 @@ use Rattle.sig_tables.specs.Seen.{frame_seen}
 use Rattle.engine.specs.declared.colouring.Next.{Next}
 use Rattle.engine.specs.Shows.{ShowsColours}
 
--- the frame is the one that comes, the sets are those of its colours, and what is said to be kept is that of the last frame
+-- the frame is that of the next tick, the sets are those of its colours, and the parts that are marked as kept are
+-- those of the last frame
 pub record Comes (n : Next) (past : Past) : Type 0 where
   pub frame : n.frame ≡ (next_moment past).frame
   pub shown : ShowsColours n.shown n.frame.veh

@@ -1,4 +1,4 @@
--- An engine represents a history if all that it keeps is the result of the history.
+-- An engine represents a history if all that it stores follows from the history.
 use Rattle.std.specs.Prelude.{ℕ, max}
 use Rattle.sig_tables.specs.Past.{Past, History}
 use Rattle.sig_tables.specs.Decide.{past_at}
@@ -14,11 +14,11 @@ use Rattle.engine.specs.declared.Engine.{Engine}
 abbrev pub tick_count : {M : Type 0} → (M → ℕ) → Engine M → ℕ
 tick_count frames e = max (told_ticks e.context) (frames e.memory)
 
--- the number of tables put in force since the opening
+-- the number of downloads put in force since the opening
 abbrev pub install_count : {M : Type 0} → Engine M → ℕ
 install_count e = e.context.version
 
--- what the engine keeps is what the past gives
+-- what the engine stores represents the past
 pub record EngineKeeps {M : Type 0} (remembers : M → Past → Type 0) (e : Engine M) (past : Past) : Type 0 where
   pub context : ContextStands e.context past
   pub memory : remembers e.memory past
@@ -26,6 +26,6 @@ pub record EngineKeeps {M : Type 0} (remembers : M → Past → Type 0) (e : Eng
   pub walking : Has e.walking (is_walking (frame_seen past))
   pub signalling : Has e.signalling (is_signalling (frame_seen past))
 
--- the engine represents a history: it keeps the result of it
+-- the engine represents a history
 abbrev pub EngineStands : {M : Type 0} → (M → Past → Type 0) → Engine M → History → Type 0
 EngineStands remembers e h = EngineKeeps remembers e (past_at h)

@@ -1,4 +1,4 @@
--- The phases by what a frame shows of them.
+-- Sets of phases by the colour that a frame shows.
 use Rattle.std.specs.Prelude.{List}
 use Rattle.sig_types.specs.declared.frame.Colour.{Colour}
 use Rattle.sig_types.specs.declared.frame.Colour.TheVariants.{Green, Red}

@@ -5,7 +5,8 @@ use Rattle.serde_json.specs.Read.{max_depth}
 use Rattle.serde_json.specs.Written.{has_float, compact_text}
 use Rattle.scenario_read.specs.Answers.{Reads}
 
--- of a value without floats its compact text and a newline; of one that is not too deep one that reads as it
+-- the text of a value without floats is its compact text and a newline; the text of a value that isn't nested too
+-- deeply reads as this value
 pub record IsTextOf (text : List ℕ) (d : Data) : Type 0 where
   pub whole : has_float d ≡ false → text ≡ compact_text d ++ 10 ∷ []
   pub reads : depth d ≤ max_depth → Reads text d

@@ -1,5 +1,5 @@
--- All faults of a field file's value, in the order of the checks: names and values, then what lies across its lists. Places in lists are
--- counted from 0.
+-- All faults of a field file, in the order of the checks: first names and values, then checks across its lists.
+-- Places in lists are counted from 0.
 use Rattle.std.specs.Prelude.{ℕ, zero, suc, ◌*◌, ◌%◌, ◌==◌, ◌&&◌, ◌||◌, nat_le, nat_lt, Bool, true, false, if◌then◌else◌, List, [], ◌∷◌, ◌++◌, length, take, get_or, codes, Option, Some, None}
 use Rattle.serde_json.specs.Data.{Data}
 use Rattle.scenario_data.specs.declared.scenario.Entry.{Entry}
@@ -15,41 +15,46 @@ use Rattle.responsive.specs.Level.{step_to}
 use Rattle.field_read.specs.Table.{field_shape}
 use Rattle.field_read.specs.Content.{RuleContent, RespondContent, FieldContent, rounds_run, cabinets_run, field_of}
 
--- the paths of a detector of the bank, of a pulse, of a section's rule, and of one of its steps
+-- the path of a detector of the bank
 abbrev pub detector_path : ℕ → List PathStep
 detector_path i = Named (codes "bank") ∷ Item i ∷ []
 
+-- the path of a pulse
 abbrev pub pulse_path : ℕ → List PathStep
 pulse_path i = Named (codes "pulses") ∷ Item i ∷ []
 
+-- the path of the rule of a section
 abbrev pub section_path : ℕ → List PathStep
 section_path i = Named (codes "respond") ∷ Named (codes "sections") ∷ Item i ∷ []
 
+-- the path of a step in the rule of a section
 abbrev pub step_path : ℕ → ℕ → List PathStep
 step_path i j = Named (codes "respond") ∷ Named (codes "sections") ∷ Item i ∷ Named (codes "steps") ∷ Item j ∷ []
 
--- the faults at the places 0 to n - 1, in their order
+-- the faults at the places 0 to n - 1, in order
 abbrev pub upto : (ℕ → List Cause) → ℕ → List Cause
 upto faults zero = []
 upto faults (suc n) = upto faults n ++ faults n
 
--- the detector of this number at the cabinet is one of these
+-- the list contains the detector with this number at this cabinet
 abbrev pub has_detector : List Detector → ℕ → ℕ → Bool
 has_detector [] cabinet detector = false
 has_detector (d ∷ ds) cabinet detector = ((d.cabinet == cabinet) && (d.detector == detector)) || has_detector ds cabinet detector
 
--- what is at a place of a list
+-- the detector at this place of a list
 abbrev pub detector_at : List Detector → ℕ → Detector
 detector_at bank i =
     get_or bank i (record { cabinet = 0; detector = 0; phase = 0; delay = 0; extend = 0; no_activity = 0; max_presence = 0; erratic = 0 })
 
+-- the pulse at this place of a list
 abbrev pub pulse_at : List Pulse → ℕ → Pulse
 pulse_at pulses i = get_or pulses i (record { round = 0; cabinet = 0; detector = 0; on = false })
 
+-- the rule at this place of a list
 abbrev pub rule_at : List RuleContent → ℕ → RuleContent
 rule_at rules i = get_or rules i (record { section = 0; base = 0; steps = [] })
 
--- a detector of the bank may not be one that is before it
+-- a detector of the bank must not repeat an earlier detector
 abbrev pub bank_fit : List Detector → ℕ → Fit
 bank_fit bank i = if has_detector (take i bank) (detector_at bank i).cabinet (detector_at bank i).detector then Wrong else Fits
 
@@ -69,12 +74,12 @@ pulse_fault bank pulses i = fault_at (pulse_path i) (pulse_fit bank pulses i)
 abbrev pub pulse_faults : List Detector → List Pulse → List Cause
 pulse_faults bank pulses = upto (pulse_fault bank pulses) (length pulses)
 
--- one of the places 0 to n - 1 passes the test
+-- the test holds at one of the places 0 to n - 1
 abbrev pub any_below : (ℕ → Bool) → ℕ → Bool
 any_below test zero = false
 any_below test (suc n) = any_below test n || test n
 
--- a section may not have a rule that is before
+-- a section must not have a second rule
 abbrev pub has_section : List RuleContent → ℕ → ℕ → Bool
 has_section rules section i = (rule_at rules i).section == section
 
@@ -95,7 +100,7 @@ abbrev pub is_above : List Step → ℕ → Bool
 is_above steps zero = true
 is_above steps (suc j) = nat_lt (step_to steps j).up (step_to steps (suc j)).up && nat_lt (step_to steps j).down (step_to steps (suc j)).down
 
--- a step's `down` is at most its `up`, and both rise from step to step
+-- the `down` of a step is at most its `up`, and both increase from step to step
 abbrev pub step_fit : List Step → ℕ → Fit
 step_fit steps j = if nat_le (step_to steps j).down (step_to steps j).up && is_above steps j then Fits else Beyond
 
@@ -111,7 +116,7 @@ rule_step_faults rules i = step_faults i (rule_at rules i).steps
 abbrev pub all_step_faults : List RuleContent → List Cause
 all_step_faults rules = upto (rule_step_faults rules) (length rules)
 
--- the scenario has no schedule of its own
+-- the scenario must not have its own schedule
 abbrev pub schedule_fit : List Entry → Fit
 schedule_fit [] = Fits
 schedule_fit (entry ∷ entries) = Wrong
@@ -119,21 +124,21 @@ schedule_fit (entry ∷ entries) = Wrong
 abbrev pub schedule_faults : ScenarioContent → List Cause
 schedule_faults s = fault_at (Named (codes "scenario") ∷ Named (codes "master") ∷ Named (codes "schedule") ∷ []) (schedule_fit s.master.schedule)
 
--- the periods begin at whole seconds of the master's clock
+-- each period must begin at a whole second of the master's clock
 abbrev pub period_fit : ℕ → ℕ → ℕ → Fit
 period_fit clock period ticks = if (clock % 10 == 0) && ((period * ticks) % 10 == 0) then Fits else Beyond
 
 abbrev pub period_faults : ScenarioContent → ℕ → List Cause
 period_faults s period = fault_at (Named (codes "respond") ∷ Named (codes "period") ∷ []) (period_fit s.master.clock period s.ticks)
 
--- the rounds take no more than a day
+-- the rounds must not take more than a day
 abbrev pub day_fit : ℕ → Fit
 day_fit ticks = if nat_le ticks 864000 then Fits else Beyond
 
 abbrev pub day_faults : ScenarioContent → List Cause
 day_faults s = fault_at (Named (codes "scenario") ∷ Named (codes "rounds") ∷ []) (day_fit (s.rounds * s.ticks))
 
--- what lies across the rules and the scenario, where patterns follow the traffic
+-- the faults across the rules and the scenario, if patterns follow the traffic
 abbrev pub respond_faults : ScenarioContent → RespondContent → List Cause
 respond_faults s r = section_faults r.sections ++ (all_step_faults r.sections ++ (schedule_faults s ++ (period_faults s r.period ++ day_faults s)))
 
@@ -141,11 +146,11 @@ abbrev pub asked_faults : ScenarioContent → Option RespondContent → List Cau
 asked_faults s None = []
 asked_faults s (Some r) = respond_faults s r
 
--- what lies across the lists
+-- the faults across the lists
 abbrev pub across_faults : FieldContent → List Cause
 across_faults f = bank_faults f.bank ++ (pulse_faults f.bank f.pulses ++ asked_faults f.scenario f.respond)
 
--- the faults of the names and what is there, those of the scenario among them
+-- the faults of names and values, with the faults of the scenario
 abbrev pub named_faults : Data → List Cause
 named_faults d = object_of (field_shape (rounds_run d) (cabinets_run d)) [] d
 

@@ -1,4 +1,4 @@
--- What a field file says: at each name what is there, or else the default.
+-- The content of a field file: for each name its value, or the default.
 use Rattle.std.specs.Prelude.{ℕ, List, map, Option, option_map}
 use Rattle.serde_json.specs.Data.{Data}
 use Rattle.serde_json.specs.Find.{get}
@@ -15,28 +15,33 @@ use Rattle.field_read.specs.declared.respond.Respond.{Respond}
 use Rattle.field_read.specs.declared.named.Field.{Field}
 use Rattle.field_read.specs.Table.{detector, delay, extend, no_activity, max_presence, erratic, up, down, pattern, section, base, steps, period, sections, respond, bank, pulses}
 
--- a section's rule, and the rules of all, without the memory that holds their lists
+-- the rule of a section: its base pattern and its steps
 pub record RuleContent : Type 0 where
   pub section : ℕ
   pub base : ℕ
   pub steps : List Step
 
+-- the rules of all sections, and the number of rounds in a period
 pub record RespondContent : Type 0 where
   pub period : ℕ
   pub sections : List RuleContent
 
+-- a field file: its scenario, its bank, its pulses, and its rules, if it has any
 pub record FieldContent : Type 0 where
   pub scenario : ScenarioContent
   pub bank : List Detector
   pub pulses : List Pulse
   pub respond : Option RespondContent
 
+-- the content of a rule
 abbrev pub rule_content : Rule → RuleContent
 rule_content r = record { section = r.section; base = r.base; steps = r.steps.items }
 
+-- the content of the rules of all sections
 abbrev pub respond_content : Respond → RespondContent
 respond_content r = record { period = r.period; sections = map rule_content r.sections.items }
 
+-- the content of a field file
 abbrev pub field_content : Field → FieldContent
 field_content f = record {
   scenario = scenario_content f.scenario;
@@ -45,7 +50,7 @@ field_content f = record {
   respond = option_map respond_content f.respond;
 }
 
--- what the objects say; the numbers of rounds and cabinets bound what is allowed there, not what it says
+-- what an object describes. The numbers of rounds and cabinets determine which values are valid, not the result
 abbrev pub detector_of : ℕ → Data → Detector
 detector_of cabinets d = record {
   cabinet = number_at (cabinet_number cabinets) d;
@@ -75,7 +80,7 @@ rule_of d = record { section = number_at section d; base = number_at base d; ste
 abbrev pub respond_of : Data → RespondContent
 respond_of d = record { period = number_at period d; sections = list_in rule_of (held sections d) }
 
--- the lists of the whole
+-- the lists of a field file, and its rules, if it has any
 abbrev pub bank_of : ℕ → Data → List Detector
 bank_of cabinets d = list_in (detector_of cabinets) (held (bank cabinets) d)
 
@@ -85,14 +90,14 @@ pulses_of rounds cabinets d = list_in (pulse_of rounds cabinets) (held (pulses r
 abbrev pub respond_asked : Data → Option RespondContent
 respond_asked d = option_map respond_of (get respond.name d)
 
--- the numbers of rounds and cabinets of its scenario
+-- the number of rounds and of cabinets in the scenario of a field file
 abbrev pub rounds_run : Data → ℕ
 rounds_run d = round_count (held scenario d)
 
 abbrev pub cabinets_run : Data → ℕ
 cabinets_run d = cabinet_count (held scenario d)
 
--- the whole
+-- the field file that a value describes
 abbrev pub field_of : Data → FieldContent
 field_of d = record {
   scenario = scenario_of (held scenario d);

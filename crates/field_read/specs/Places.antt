@@ -1,4 +1,4 @@
--- Where in a field file a reader is, and what its parts say.
+-- The place of a reader in a field file, and what its parts describe.
 use Rattle.std.specs.Prelude.{ℕ, ◌≡◌, ◌*◌, ◌+◌, ◌<◌, ◌≤◌, Bool, false, List, [], ◌∷◌, length, get_or, codes, option_map}
 use Rattle.serde_json.specs.Data.{Data}
 use Rattle.scenario_read.specs.Paths.{Step as PathStep, Named}
@@ -21,19 +21,19 @@ steps_of Respond = Named (codes "respond") ∷ []
 steps_of (Section i) = section_path i
 steps_of (Step i j) = step_path i j
 
--- what the names after the scenario say, of this number of rounds and cabinets
+-- what was read after the scenario is what the value describes, for this many rounds and cabinets
 pub record SaysTraffic (traffic : Traffic) (rounds cabinets : ℕ) (d : Data) : Type 0 where
   pub bank : traffic.bank.items ≡ bank_of cabinets d
   pub pulses : traffic.pulses.items ≡ pulses_of rounds cabinets d
   pub respond : option_map respond_content traffic.respond ≡ respond_asked d
 
--- detectors and pulses that are at one of 64 cabinets, with a number up to 64
+-- the detectors and the pulses have cabinets and numbers of at most 64
 abbrev pub BankPlaced : List BankDetector → Type 0
 BankPlaced ds = (k : ℕ) (d : BankDetector) → k < length ds → ((get_or ds k d).cabinet ≤ 64) × ((get_or ds k d).detector ≤ 64)
 
 abbrev pub PulsesPlaced : List BankPulse → Type 0
 PulsesPlaced ps = (k : ℕ) (p : BankPulse) → k < length ps → ((get_or ps k p).cabinet ≤ 64) × ((get_or ps k p).detector ≤ 64)
 
--- the marks say which detectors are among these
+-- the marks say which detectors are in the list
 abbrev pub Marks : List Bool → List BankDetector → Type 0
 Marks marks ds = (cabinet detector : ℕ) → cabinet ≤ 64 → detector ≤ 64 → get_or marks (cabinet * 65 + detector) false ≡ has_detector ds cabinet detector

@@ -1,4 +1,4 @@
--- A field file that was read in parts is the one that a value says.
+-- The field file that was read in parts is the one that the value describes.
 use Rattle.std.specs.Prelude.{◌≡◌, []}
 use Rattle.serde_json.specs.Data.{Data}
 use Rattle.scenario_read.specs.Fields.{held}
@@ -8,7 +8,7 @@ use Rattle.field_read.specs.Content.{field_content, field_of}
 use Rattle.field_read.specs.Checks.{named_faults}
 use Rattle.field_read.specs.declared.whole.Listed.{Listed}
 
--- this is what the names of a value say, at which there is no fault
+-- what was read is what the value describes, and its names and values have no fault
 pub record SaysNames (listed : Listed) (d : Data) : Type 0 where
   pub clean : named_faults d ≡ []
   pub said : field_content listed.field ≡ field_of d

@@ -1,4 +1,4 @@
--- The table of a field file's names: for each object its fields in order, each with what is allowed there and its
+-- The table of the names of a field file: the fields of each object in order, each with its valid values and its
 -- default.
 use Rattle.std.specs.Prelude.{ℕ, List, [], ◌∷◌, codes}
 use Rattle.serde_json.specs.Data.{unsigned, Data, number, array, object, item, no_items, member, no_members}
@@ -7,7 +7,7 @@ use Rattle.scenario_read.specs.Fields.{Field, needed, optional, Shape, object_of
 use Rattle.scenario_read.specs.Table.{needed_whole, optional_list, round, cabinet_number, phase, on}
 use Rattle.scenario_checked.specs.Inside.{scenario}
 
--- a detector of the bank, in a scenario of that many cabinets
+-- the fields of a detector of the bank, for a scenario with this many cabinets
 abbrev pub detector : Field
 detector = needed_whole (codes "detector") 1 64
 
@@ -32,11 +32,12 @@ detector_shape cabinets = record {
   alternatives = [];
 }
 
--- a pulse: a detector turns on or off in a round
+-- the fields of a pulse: a detector turns on or off in a round
 abbrev pub pulse_shape : ℕ → ℕ → Shape
 pulse_shape rounds cabinets = record { fields = round rounds ∷ cabinet_number cabinets ∷ detector ∷ on ∷ []; alternatives = [] }
 
--- a step of a section's rule: at a volume of `up` its pattern comes, and it is held down to one of `down`
+-- the fields of a step in the rule of a section. The step's pattern begins at a volume of `up`, and continues while
+-- the volume is at least `down`
 abbrev pub up : Field
 up = needed_whole (codes "up") 1 1000000
 
@@ -49,7 +50,7 @@ pattern = needed_whole (codes "pattern") 0 255
 abbrev pub step_shape : Shape
 step_shape = record { fields = up ∷ down ∷ pattern ∷ []; alternatives = [] }
 
--- a section's rule
+-- the fields of the rule of a section
 abbrev pub section : Field
 section = needed_whole (codes "section") 1 8
 
@@ -62,7 +63,7 @@ steps = needed (codes "steps") (list_of 0 8 (object_of step_shape))
 abbrev pub section_shape : Shape
 section_shape = record { fields = section ∷ base ∷ steps ∷ []; alternatives = [] }
 
--- patterns that follow the traffic
+-- the fields of patterns that follow the traffic
 abbrev pub period : Field
 period = needed_whole (codes "period") 1 3600
 
@@ -72,7 +73,7 @@ sections = needed (codes "sections") (list_of 1 8 (object_of section_shape))
 abbrev pub respond_shape : Shape
 respond_shape = record { fields = period ∷ sections ∷ []; alternatives = [] }
 
--- where it is absent, a value without faults represents it; what that says is asked by none
+-- the default for `respond`: a value without a fault, whose content isn't used
 abbrev pub unasked_section : Data
 unasked_section =
     object (member (codes "base") (number (unsigned 0)) (member (codes "section") (number (unsigned 1)) (member (codes "steps") (array no_items) no_members)))
@@ -80,7 +81,7 @@ unasked_section =
 abbrev pub unasked : Data
 unasked = object (member (codes "period") (number (unsigned 1)) (member (codes "sections") (array (item unasked_section no_items)) no_members))
 
--- the whole, of a scenario with this number of rounds and cabinets
+-- the fields of a field file, for a scenario with this many rounds and cabinets
 abbrev pub bank : ℕ → Field
 bank cabinets = optional_list (codes "bank") 512 (object_of (detector_shape cabinets))
 

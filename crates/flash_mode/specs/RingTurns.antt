@@ -4,7 +4,7 @@ use Rattle.sig_tables.specs.TickState.{RingTurn as Meant, Rest as MeantRest, Sta
 use Rattle.flash_mode.specs.declared.ring_turn.RingTurn.{RingTurn}
 use Rattle.flash_mode.specs.declared.ring_turn.RingTurn.TheVariants.{Rest, StartUp, Rings, Goal}
 
--- the turn of the definitions that a turn in code represents
+-- what the rings do in the definitions, for a turn in code
 abbrev pub ring_turn_meant : RingTurn → Meant
 ring_turn_meant Rest = MeantRest
 ring_turn_meant StartUp = MeantStartUp

@@ -1,6 +1,7 @@
--- What is generated from a seed for this number of cabinets and rounds, by the places of its draws, which are counted
--- from 0. Each cabinet takes four draws. Then each round takes three for each cabinet, one that says whether a poll is
--- lost, and where it is, one for its cabinet. Below, i is a cabinet counted from 0.
+-- The scenario that is generated from a seed, for this number of cabinets and rounds. Each generated number has a
+-- place, counted from 0. Each cabinet takes four numbers. Then each round takes three numbers for each cabinet, and
+-- one that says whether a poll is lost; if it is lost, the round takes one more for its cabinet. Below, `i` is a
+-- cabinet counted from 0.
 use Rattle.std.specs.Prelude.{ℕ, zero, suc, ◌+◌, ◌*◌, ◌==◌, Bool, if◌then◌else◌, List, [], ◌∷◌, ◌++◌}
 use Rattle.sig_types.specs.declared.frame.Field.TheVariants.{Veh, Ped}
 use Rattle.sig_types.specs.declared.notes.Way.TheVariants.{Poll}
@@ -14,26 +15,28 @@ use Rattle.scenario_data.specs.declared.scenario.Fault.{Fault}
 use Rattle.scenario_data.specs.Content.{CabinetContent, LoadContent, MasterContent}
 use Rattle.gen_arterial.specs.Draws.{drawn}
 
--- what f gives of each number below n, in order
+-- the results of `f` for the numbers 0 to n - 1, in order
 abbrev pub each_below : {A : Type 0} → (ℕ → A) → ℕ → List A
 each_below f zero = []
 each_below f (suc n) = each_below f n ++ f n ∷ []
 
--- the four draws of a cabinet: the offset of its pattern 1 in seconds, its correction (2 dwell, 3 shortway, 4 add only), the round of
--- its load, and the maximum green in seconds that this load gives phase 2
+-- the offset of pattern 1 of cabinet `i`, in seconds
 abbrev pub offset : ℕ → ℕ → ℕ
 offset seed i = drawn seed (4 * i) 90
 
+-- the offset correction of cabinet `i`: 2 dwell, 3 shortway, 4 add only
 abbrev pub correction : ℕ → ℕ → ℕ
 correction seed i = 2 + drawn seed (4 * i + 1) 3
 
+-- the round of the load of cabinet `i`
 abbrev pub load_round : ℕ → ℕ → ℕ → ℕ
 load_round seed rounds i = 1 + drawn seed (4 * i + 2) rounds
 
+-- the maximum green in seconds that the load of cabinet `i` gives to phase 2
 abbrev pub load_maximum : ℕ → ℕ → ℕ
 load_maximum seed i = 30 + drawn seed (4 * i + 3) 30
 
--- a cabinet with the standard tables, in pattern 1, with such an offset and correction; and the load of a cabinet with this number
+-- a cabinet with the standard tables std8, in pattern 1, with this offset and this correction
 abbrev pub cabinet_with : ℕ → ℕ → CabinetContent
 cabinet_with offset correction = record {
   base = Std8;
@@ -45,69 +48,74 @@ cabinet_with offset correction = record {
   lose = 0;
 }
 
+-- a load in this round for this cabinet, which gives this maximum green to phase 2
 abbrev pub load_with : ℕ → ℕ → ℕ → LoadContent
 load_with round cabinet green = record { round = round; cabinet = cabinet; cells = (Phase 2 6, Number green) ∷ [] }
 
--- those of cabinet i
+-- cabinet `i`
 abbrev pub cabinet_made : ℕ → ℕ → CabinetContent
 cabinet_made seed i = cabinet_with (offset seed i) (correction seed i)
 
+-- the load of cabinet `i`
 abbrev pub load_made : ℕ → ℕ → ℕ → LoadContent
 load_made seed rounds i = load_with (load_round seed rounds i) (1 + i) (load_maximum seed i)
 
--- the inputs of the cabinet in a round, by the three draws from a place on: a detector turns on or off, and the push
--- button of phase 2 is pressed now and then
+-- an input of cabinet `i`: a detector turns on or off, by the two numbers from this place on
 abbrev pub detector_input : ℕ → ℕ → ℕ → ℕ → Input
 detector_input seed round place i =
     record { round = round; cabinet = 1 + i; field = Veh (1 + drawn seed place 8) (drawn seed (place + 1) 2 == 1) }
 
+-- an input of cabinet `i`: the push button of phase 2 is pressed
 abbrev pub button_input : ℕ → ℕ → Input
 button_input round i = record { round = round; cabinet = 1 + i; field = Ped 2 }
 
+-- the inputs of cabinet `i` in a round, by the three numbers from this place on. The push button is pressed in one
+-- case of four
 abbrev pub cabinet_inputs : ℕ → ℕ → ℕ → ℕ → List Input
 cabinet_inputs seed round place i =
     detector_input seed round place i ∷ (if drawn seed (place + 2) 4 == 0 then button_input round i ∷ [] else [])
 
--- those of the first n cabinets in a round whose draws begin at a place
+-- the inputs of the first `n` cabinets in a round whose numbers begin at this place
 abbrev pub round_inputs : ℕ → ℕ → ℕ → ℕ → List Input
 round_inputs seed round place zero = []
 round_inputs seed round place (suc n) = round_inputs seed round place n ++ cabinet_inputs seed round (place + 3 * n) n
 
--- the draw at a place says that a poll is lost
+-- the number at this place says that a poll is lost, in one case of five
 abbrev pub loses_poll : ℕ → ℕ → Bool
 loses_poll seed place = drawn seed place 5 == 0
 
--- the poll of a round on its way to a cabinet is lost
+-- the fault of a round: the poll is lost on its way to a cabinet
 abbrev pub lost_poll : ℕ → ℕ → Fault
 lost_poll round cabinet =
     record { round = round; cabinet = cabinet; stream = Poll; way = Down; index = 0; kind = Lose; by = 1; octet = 1 }
 
--- the lost poll of a round, if any, by the draws from a place on
+-- the lost poll of a round, if one is lost, by the numbers from this place on
 abbrev pub round_faults : ℕ → ℕ → ℕ → ℕ → List Fault
 round_faults seed cabinets round place =
     if loses_poll seed place then lost_poll round (1 + drawn seed (place + 1) cabinets) ∷ [] else []
 
--- the first place after these draws
+-- the place after the numbers for the lost poll
 abbrev pub place_behind : ℕ → ℕ → ℕ
 place_behind seed place = if loses_poll seed place then place + 2 else place + 1
 
--- the first place of the draws of a round, after that many rounds
+-- the place of the first number of the round after this many rounds
 abbrev pub round_place : ℕ → ℕ → ℕ → ℕ
 round_place seed cabinets zero = 4 * cabinets
 round_place seed cabinets (suc done) = place_behind seed (round_place seed cabinets done + 3 * cabinets)
 
--- the inputs and the lost polls of that many rounds
+-- the inputs of this many rounds
 abbrev pub all_inputs : ℕ → ℕ → ℕ → List Input
 all_inputs seed cabinets zero = []
 all_inputs seed cabinets (suc done) =
     all_inputs seed cabinets done ++ round_inputs seed (1 + done) (round_place seed cabinets done) cabinets
 
+-- the lost polls of this many rounds
 abbrev pub all_faults : ℕ → ℕ → ℕ → List Fault
 all_faults seed cabinets zero = []
 all_faults seed cabinets (suc done) =
     all_faults seed cabinets done ++ round_faults seed cabinets (1 + done) (round_place seed cabinets done + 3 * cabinets)
 
--- the master polls in each round, and commands pattern 1 again in each sixtieth
+-- the master polls in each round, and repeats pattern 1 in each sixtieth round
 abbrev pub master_made : MasterContent
 master_made = record {
   clock = 0;

@@ -11,15 +11,15 @@ left_of s = drop s.at s.bytes.items
 abbrev pub failing_reads : MemSource → List ℕ
 failing_reads s = s.fails.items
 
--- how many reads there were
+-- the number of reads so far
 abbrev pub reads_so_far : MemSource → ℕ
 reads_so_far s = s.calls
 
--- how many reads failed
+-- the number of reads that failed
 abbrev pub source_faults : MemSource → ℕ
 source_faults s = s.faults
 
--- how many bytes a read gives at the most
+-- the maximum number of bytes that a read gives
 abbrev pub most_read : MemSource → ℕ
 most_read s = s.most
 
@@ -31,18 +31,18 @@ written_of s = s.bytes.items
 abbrev pub failing_writes : MemSink → List ℕ
 failing_writes s = s.fails.items
 
--- how many writes there were
+-- the number of writes so far
 abbrev pub writes_so_far : MemSink → ℕ
 writes_so_far s = s.calls
 
--- how many writes failed
+-- the number of writes that failed
 abbrev pub sink_faults : MemSink → ℕ
 sink_faults s = s.faults
 
--- the room that is left
+-- the number of bytes for which there is still room
 abbrev pub room_left : MemSink → ℕ
 room_left s = s.room - length s.bytes.items
 
--- how many bytes a write takes at the most
+-- the maximum number of bytes that a write accepts
 abbrev pub most_written : MemSink → ℕ
 most_written s = s.most

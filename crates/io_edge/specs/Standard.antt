@@ -3,18 +3,18 @@ use Rattle.std.specs.Prelude.{ℕ}
 use Rattle.io_edge.specs.declared.standard.StdSource.{StdSource}
 use Rattle.io_edge.specs.declared.standard.StdSink.{StdSink}
 
--- the reader that a source is made from
+-- the reader of a source
 abbrev pub reader_of : {R : Type 0} → StdSource R → R
 reader_of s = s.inner
 
--- how many reads failed
+-- the number of reads that failed
 abbrev pub reader_faults : {R : Type 0} → StdSource R → ℕ
 reader_faults s = s.faults
 
--- the writer that a sink is made from
+-- the writer of a sink
 abbrev pub writer_of : {W : Type 0} → StdSink W → W
 writer_of s = s.inner
 
--- how many writes failed
+-- the number of writes that failed
 abbrev pub writer_faults : {W : Type 0} → StdSink W → ℕ
 writer_faults s = s.faults

@@ -1,4 +1,4 @@
--- What the registers of a phase say, and what a line breaks at it.
+-- What the registers of a phase represent, and which breaches a line shows at the phase.
 use Rattle.std.specs.Prelude.{ℕ, ◌≡◌, ◌||◌, not, Bool, List, ◌∷◌, Option}
 use Rattle.sig_types.specs.declared.frame.Ped.{Ped}
 use Rattle.sig_types.specs.declared.frame.Ped.TheVariants.{Walk, Flash, Dont}
@@ -21,12 +21,12 @@ use Rattle.judge.specs.Since.{since_if}
 use Rattle.judge.specs.Watches.{Watches}
 use Rattle.judge.specs.Signals.{Heeds}
 
--- both registers of phase p
+-- the registers of phase p represent these lines, for its colour and for its pedestrian signal
 pub record Follows (w : PhaseWatch) (joined : Bool) (tables : ℕ → Tables) (p : ℕ) (older : List (ℕ × Indications)) : Type 0 where
   pub colour : Watches w.colour joined tables p older
   pub signal : Heeds w.signal joined tables p older
 
--- a line that shows these of phase p, under this row of the tables
+-- a line that shows this colour and signal of phase p, under this row of the tables, with these times left by a preempt
 pub record Shows (joined : Bool) (step : Step) (colour : Colour) (signal : Ped) (times : PhaseTimes) (left : Option LesserTimes) (tables : ℕ → Tables)
     (p : ℕ) (older : List (ℕ × Indications)) (line : ℕ × Indications) : Type 0 where
   pub at : line.0 ≡ step.tick
@@ -36,7 +36,7 @@ pub record Shows (joined : Bool) (step : Step) (colour : Colour) (signal : Ped) 
   pub row : row (tables line.1.version) p ≡ times
   pub way : lesser_of (makes_way_for (tables line.1.version) line.1.mode p) ≡ left
 
--- what a line breaks in the course of phase p
+-- what is found at phase p are the breaches of order and of length that a line shows there
 pub record FindsCourse (found : CourseFound) (tolerance : ℕ) (joined : Bool) (tables : ℕ → Tables) (p : ℕ) (older : List (ℕ × Indications))
     (line : ℕ × Indications) : Type 0 where
   pub order : found.order ≡ breaks_order joined tables p older line
@@ -45,7 +45,8 @@ pub record FindsCourse (found : CourseFound) (tolerance : ℕ) (joined : Bool) (
   pub pedestrian : found.pedestrian ≡ ends_walk_wrong (within tolerance joined) tables p older line
   pub on_green : found.on_green ≡ not (gives Dont p line.1 || shows Green p line.1)
 
--- a step of a phase: what the line breaks, and what is kept
+-- one step of a phase: what is found are the breaches that the line shows, and the new registers represent the lines
+-- with this one
 abbrev pub PhaseSteps : PhaseWatch → PhaseWatch → CourseFound → ℕ → Step → Colour → Ped → PhaseTimes → Option LesserTimes → Type 0
 PhaseSteps old new found p step colour signal times left = (joined : Bool) (tables : ℕ → Tables) (older : List (ℕ × Indications)) (line : ℕ × Indications)
     → Follows old joined tables p older → Shows joined step colour signal times left tables p older line
@@ -57,7 +58,7 @@ JudgesOrder old order p step colour signal times left = (joined : Bool) (tables 
     → Follows old joined tables p older → Shows joined step colour signal times left tables p older line
     → order ≡ breaks_order joined tables p older line
 
--- the two halves of a step
+-- the two halves of a step: the new registers, and what is found
 abbrev pub StepsOn : PhaseWatch → PhaseWatch → ℕ → Step → Colour → Ped → PhaseTimes → Option LesserTimes → Type 0
 StepsOn old new p step colour signal times left = (joined : Bool) (tables : ℕ → Tables) (older : List (ℕ × Indications)) (line : ℕ × Indications)
     → Follows old joined tables p older → Shows joined step colour signal times left tables p older line → Follows new joined tables p (line ∷ older)
@@ -67,7 +68,7 @@ FindsOn old found p step colour signal times left = (joined : Bool) (tables : �
     → Follows old joined tables p older → Shows joined step colour signal times left tables p older line
     → FindsCourse found step.tolerance joined tables p older line
 
--- what has run over its time at a tick
+-- the intervals of phase p that exceed their time at a tick
 pub record OverrunsAt (overruns : PhaseOverruns) (tick tolerance : ℕ) (tables : ℕ → Tables) (p : ℕ) (older : List (ℕ × Indications)) : Type 0 where
   pub yellow : overruns.yellow
       ≡ since_if (runs_over tolerance (shows Yellow p) (λ first. yellow_time (tables first.1.version) p) tick older) (first_of (shows Yellow p) older).0

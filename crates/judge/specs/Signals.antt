@@ -1,4 +1,4 @@
--- What the registers of a phase's pedestrian signal say: what looking back over the lines of the cabinet gives.
+-- What the registers of a phase's pedestrian signal represent: what looking back over the lines of the cabinet gives.
 use Rattle.std.specs.Prelude.{ℕ, ◌≡◌, Bool, List, ◌∷◌, Option}
 use Rattle.sig_types.specs.declared.frame.Ped.{Ped}
 use Rattle.sig_types.specs.declared.frame.Ped.TheVariants.{Walk, Flash, Dont}
@@ -15,20 +15,21 @@ use Rattle.judge.specs.declared.lengths.Step.{Step}
 use Rattle.judge.specs.Lesser.{lesser_of}
 use Rattle.judge.specs.Since.{since_if}
 
--- how long an interval of a signal must last
+-- the time of an interval of a signal by the tables; 0 for Dont
 abbrev pub signal_time_of : Ped → Tables → ℕ → ℕ
 signal_time_of Walk t p = walk_time t p
 signal_time_of Flash t p = pedestrian_clear_time t p
 signal_time_of Dont t p = 0
 
--- the registers of phase p after these lines
+-- the registers of phase p represent these lines: they hold the signal shown last, the first tick of its interval, its
+-- time by the tables of that tick, and whether the log shows its beginning
 pub record Heeds (w : SignalWatch) (joined : Bool) (tables : ℕ → Tables) (p : ℕ) (older : List (ℕ × Indications)) : Type 0 where
   pub signal : w.signal ≡ signal_of (newest older) p
   pub since : w.since ≡ (first_of (gives w.signal p) older).0
   pub time : w.time ≡ signal_time_of w.signal (tables (first_of (gives w.signal p) older).1.version) p
   pub begun : w.begun ≡ saw_beginning joined (gives w.signal p) older
 
--- a line that shows this signal of phase p, under this row of the tables
+-- a line that shows this signal of phase p, under this row of the tables, with these times left by a preempt
 pub record ShowsSignal (joined : Bool) (step : Step) (now : Ped) (times : PhaseTimes) (left : Option LesserTimes) (tables : ℕ → Tables) (p : ℕ)
     (older : List (ℕ × Indications)) (line : ℕ × Indications) : Type 0 where
   pub at : line.0 ≡ step.tick
@@ -37,18 +38,18 @@ pub record ShowsSignal (joined : Bool) (step : Step) (now : Ped) (times : PhaseT
   pub row : row (tables line.1.version) p ≡ times
   pub way : lesser_of (makes_way_for (tables line.1.version) line.1.mode p) ≡ left
 
--- after a line the registers say the same of one line more
+-- if the old registers represent the lines before a line, the new ones represent the lines with it
 abbrev pub HeedsNext : SignalWatch → SignalWatch → ℕ → Step → Ped → PhaseTimes → Option LesserTimes → Type 0
 HeedsNext old new p step now times left = (joined : Bool) (tables : ℕ → Tables) (older : List (ℕ × Indications)) (line : ℕ × Indications)
     → Heeds old joined tables p older → ShowsSignal joined step now times left tables p older line → Heeds new joined tables p (line ∷ older)
 
--- the line ends a walk or a pedestrian clearance of the wrong length
+-- whether the line ends a walk or a pedestrian clearance of a wrong length
 abbrev pub JudgesSignal : SignalWatch → Bool → ℕ → Step → Ped → PhaseTimes → Option LesserTimes → Type 0
 JudgesSignal old wrong p step now times left = (joined : Bool) (tables : ℕ → Tables) (older : List (ℕ × Indications)) (line : ℕ × Indications)
     → Heeds old joined tables p older → ShowsSignal joined step now times left tables p older line
     → wrong ≡ ends_walk_wrong (within step.tolerance joined) tables p older line
 
--- since when this signal is shown, if it has run over its time at a tick
+-- the first tick of this signal's interval, if the interval exceeds its time at a tick
 abbrev pub SignalRunsOver : SignalWatch → Option ℕ → Ped → ℕ → ℕ → ℕ → Type 0
 SignalRunsOver w since signal tick tolerance p = (joined : Bool) (tables : ℕ → Tables) (older : List (ℕ × Indications)) → Heeds w joined tables p older
     → since ≡ since_if (runs_over tolerance (gives signal p) (λ first. signal_time_of signal (tables first.1.version) p) tick older) (first_of (gives signal p) older).0

@@ -1,4 +1,4 @@
--- A tick that is given if a test passes.
+-- A tick if a test passes, otherwise none.
 use Rattle.std.specs.Prelude.{ℕ, Bool, if◌then◌else◌, Option, Some, None}
 
 abbrev pub since_if : Bool → ℕ → Option ℕ

@@ -1,4 +1,4 @@
--- Which lines are a log, and why a log stops. Lists of read lines have the newest line first.
+-- Which lines form a log, and why a log stops at a line that can't follow. Lists of lines have the newest line first.
 use Rattle.std.specs.Prelude.{ℕ, ◌≡◌, ◌+◌, ◌≤◌, ◌==◌, nat_lt, nat_le, not, true, if◌then◌else◌, Bool, List, [], ◌∷◌, ◌++◌, length, map, filter, reverse, Option, Some, None, Ok}
 use Rattle.trace_text.specs.declared.lines.Line.{Line}
 use Rattle.trace_text.specs.declared.lines.Line.TheVariants.{F, L}
@@ -17,19 +17,20 @@ abbrev pub is_later : ℕ → List (ℕ × Indications) → Bool
 is_later tick [] = true
 is_later tick (line ∷ older) = nat_lt line.0 tick
 
--- why a frame of a cabinet of the scenario can't follow some lines: its tick isn't later than that of the cabinet's last frame, or its
--- version isn't the number of loads that the cabinet has accepted
+-- why an F line of a cabinet of the scenario can't follow these lines: its tick isn't later than that of the cabinet's
+-- last F line, or its version isn't the number of downloads that the cabinet has accepted
 abbrev pub frame_fault : ℕ → ℕ → ℕ → List Line → Option LineFault
 frame_fault tick version cab before =
     if not (is_later tick (told cab before)) then Some NotLater
     else if not (version == downloads cab before) then Some FrameVersion else None
 
--- why an accepted load can't: its version isn't one more than their number
+-- why the line of an accepted download can't follow these lines: its version isn't one more than the number of
+-- downloads accepted before it
 abbrev pub load_fault : ℕ → ℕ → List Line → Option LineFault
 load_fault version cab before = if not (version == downloads cab before + 1) then Some LoadVersion else None
 
--- why a line of a trace can't follow those before it: a frame or an accepted load, also one of a cabinet that the scenario doesn't
--- have. Other lines always can
+-- why a line of a trace can't follow those before it. An F line and the line of an accepted download also can't if the
+-- scenario doesn't have their cabinet. Every other line can
 abbrev pub fault_of : ScenarioContent → List Line → Line → Option LineFault
 fault_of s before (F cab tick veh ped mode counter target version) =
     if not (has_cabinet s cab) then Some NoCabinet else frame_fault tick version cab before
@@ -37,26 +38,27 @@ fault_of s before (L cab id (Ok version)) =
     if not (has_cabinet s cab) then Some NoCabinet else load_fault version cab before
 fault_of s before _ = None
 
--- each of some lines can follow those before it
+-- each of these lines can follow those before it
 abbrev pub Follow : ScenarioContent → List Line → Type 0
 Follow s [] = Unit {0}
 Follow s (line ∷ before) = (fault_of s before line ≡ None) × Follow s before
 
--- the bytes of a line as they are read have no newline, and those of a line of a trace end with one
+-- the bytes of a line with the newline that ends each line of a trace; lines are read without it
 abbrev pub ended : List ℕ → List ℕ
 ended bytes = bytes ++ 10 ∷ []
 
--- what is judged: a frame, or an accepted load
+-- the lines that are judged: F lines, and lines of accepted downloads
 abbrev pub IsJudged : Line → Type 0
 IsJudged (F cab tick veh ped mode counter target version) = Unit {0}
 IsJudged (L cab id (Ok version)) = Unit {0}
 IsJudged _ = ⊥
 
--- the lines of at most 4,096 bytes. Longer ones are ignored: none of them is judged
+-- the lines of at most 4,096 bytes; longer lines are ignored, and never judged
 abbrev pub short_lines : List (List ℕ) → List (List ℕ)
 short_lines lines = filter (λ line. nat_le (length line) 4096) lines
 
--- the bytes, line by line, are a log: the short ones are these lines of a trace, each of which can follow those before it
+-- the bytes, line by line, are a log: the lines of at most 4,096 bytes are these lines of a trace, and each of them can
+-- follow those before it
 pub record IsLog (s : ScenarioContent) (bytes : List (List ℕ)) (before : List Line) : Type 0 where
   pub texts : map ended (short_lines bytes) ≡ map line_text (reverse before)
   pub are : AreLines before
@@ -67,12 +69,13 @@ pub record IsRead (bytes : List ℕ) (line : Line) : Type 0 where
   pub is : IsLine line
   pub text : ended bytes ≡ line_text line
 
--- why the bytes of a line can't follow these lines: they aren't a line of a trace, or are a line that can't follow
+-- why the bytes of a line can't follow these lines: they aren't a line of a trace, or their line can't follow
 abbrev pub IsFault : ScenarioContent → List Line → List ℕ → LineFault → Type 0
 IsFault s before bytes NotALine = (line : Line) → IsRead bytes line → ⊥
 IsFault s before bytes fault = (line : Line) × IsRead bytes line × (fault_of s before line ≡ Some fault)
 
--- a log stops at the line of this place, counted from 0: the lines before it are a log, and that line, which is a short one, can't follow
+-- a log stops at the line with this place, counted from 0: the lines before it are a log, and the line, of at most
+-- 4,096 bytes, can't follow them
 pub record LogStops (s : ScenarioContent) (lines : List (List ℕ)) (place : ℕ) (before : List Line) (fault : LineFault) : Type 0 where
   pub front : List (List ℕ)
   pub line : List ℕ

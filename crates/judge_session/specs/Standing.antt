@@ -1,4 +1,4 @@
--- That what the judge of a log keeps says what looking back over its lines gives.
+-- The state of a judge represents the lines of a log: it is what looking back over the lines gives.
 use Rattle.std.specs.Prelude.{ℕ, ◌≡◌, ◌+◌, ◌<◌, ◌≤◌, ◌++◌, Bool, List, [], ◌∷◌, length, get_or, Option, Some, None, IfSome, Result, Ok, Err}
 use Rattle.sig_tables.specs.declared.tables.Tables.{Tables}
 use Rattle.trace_text.specs.declared.lines.Line.{Line}
@@ -25,16 +25,16 @@ abbrev pub last_of : List (ℕ × Indications) → Option ℕ
 last_of [] = None
 last_of (line ∷ older) = Some line.0
 
--- these are the tables of each known version of a cabinet, by some lines
+-- these are the tables of each known version of a cabinet, according to some lines
 abbrev pub AreTold : ScenarioContent → ℕ → List Line → (ℕ → Tables) → Type 0
 AreTold s cab before tables =
     (version : ℕ) (t : Tables) → version_told (load_told s cab) (opening_at s cab) cab before version ≡ Some t → tables version ≡ t
 
--- the registers of a cabinet say what looking back over its lines gives, whatever the tables of the versions to come
+-- the registers of a cabinet represent its lines, regardless of the tables of later versions
 abbrev pub JudgesBy : CabinetJudge → ScenarioContent → Bool → ℕ → List Line → Type 0
 JudgesBy judge s joined cab before = (tables : ℕ → Tables) → AreTold s cab before tables → AllFollow judge joined tables (told cab before)
 
--- what is kept of the cabinet with this number, after some lines. Of a cabinet whose tables are unknown nothing is judged
+-- the state of the cabinet with this number represents these lines; a cabinet whose tables are unknown isn't judged
 pub record WatchStands (w : CabinetWatch) (s : ScenarioContent) (joined : Bool) (cab : ℕ) (before : List Line) : Type 0 where
   pub version : w.version ≡ downloads cab before
   pub last : w.last ≡ last_of (told cab before)
@@ -42,7 +42,7 @@ pub record WatchStands (w : CabinetWatch) (s : ScenarioContent) (joined : Bool) 
   pub in_force : IfSome (in_force_told s cab before) (IsInForce w.in_force)
   pub judged : IfSome (in_force_told s cab before) (λ t. JudgesBy w.judge s joined cab before)
 
--- what is kept of a log, after some lines of it, the newest first
+-- the state of the judge represents these lines of a log, newest first
 pub record JudgeStands (judge : LogJudge) (s : ScenarioContent) (terms : Terms) (before : List Line) : Type 0 where
   pub scenario : scenario_content judge.scenario ≡ s
   pub by : judge.terms ≡ terms
@@ -52,7 +52,7 @@ pub record JudgeStands (judge : LogJudge) (s : ScenarioContent) (terms : Terms) 
   pub last : judge.last ≡ last_tick before
   pub breaches : judge.breaches ≡ length (log_found s terms before)
 
--- a line can follow; the judge keeps what looking back over one line more gives, and the report of the line was appended to a text
+-- a line can follow: the new state represents the lines with it, and its report was appended to a text
 pub record FollowsOn (new : LogJudge) (s : ScenarioContent) (terms : Terms) (before : List Line) (line : Line) (text_before text : List ℕ) : Type 0 where
   pub follows : fault_of s before line ≡ None
   pub report : text ≡ text_before ++ line_report s terms before line
@@ -64,7 +64,8 @@ pub record Takes (new : LogJudge) (s : ScenarioContent) (terms : Terms) (before 
   pub read : IsRead bytes line
   pub on : FollowsOn new s terms before line text_before text
 
--- a line follows; or it can't, for this fault, and judge and text are as they were; of lack of memory nothing is said
+-- the result for a line. The line follows; or it can't for this fault, and judge and text are unchanged. If memory runs
+-- out, nothing is claimed
 abbrev pub Follows : Result (Unit {0}) NotTaken → LogJudge → LogJudge → Line → List ℕ → List ℕ → Type 0
 Follows (Ok done) old new line text_before text =
     (s : ScenarioContent) (terms : Terms) (before : List Line) → JudgeStands old s terms before → FollowsOn new s terms before line text_before text
@@ -72,7 +73,7 @@ Follows (Err (Refused fault)) old new line text_before text =
     (new ≡ old) × (text ≡ text_before) × ((s : ScenarioContent) (terms : Terms) (before : List Line) → JudgeStands old s terms before → fault_of s before line ≡ Some fault)
 Follows (Err NoMemory) old new line text_before text = Unit {0}
 
--- the lines of some breaches were appended to a text, and they were counted
+-- the report's lines of these breaches were appended to a text, and their number was added to a count
 pub record Adds (text_before text : List ℕ) (count_before count : ℕ) (breaches : List Breach) : Type 0 where
   pub appended : text ≡ text_before ++ breaches_text breaches
   pub counted : count ≡ count_before + length breaches

@@ -20,16 +20,17 @@ use Rattle.judged_runs.specs.Loads.{LoadsAreOwn, AllAreLoads}
 abbrev pub read_lines : List Line → List Line
 read_lines lines = filter (λ line. nat_le (length (line_text line)) 4097) lines
 
--- the lines that follow the first one, which has the scenario, are a log that a judge accepts, whatever bytes they are read from. If no
--- download came under the number of a load with other cells, no line of the log shows a breach, to the tick. If each download was a
--- load, the tables of all cabinets are known throughout
+-- the lines after the first one, which has the scenario, are a log that a judge accepts, for any bytes that give them.
+-- If no download has the number of a load but other cells, no line of the log shows a breach, to the tick. If each
+-- download is a load, the tables of all cabinets are always known
 pub record IsAcceptedLog (s : ScenarioContent) (journals : List (List (List ℕ))) (rest : List Line) : Type 0 where
   pub log : (bytes : List (List ℕ)) → map ended bytes ≡ map line_text rest → IsLog s bytes (reverse (read_lines rest))
   pub none : LoadsAreOwn s journals → log_found s exact (reverse (read_lines rest)) ≡ []
   pub known : AllAreLoads s journals → AllKnown s (reverse (read_lines rest))
 
--- these are the lines of a run whose journals are these: the first has the scenario, the others are an accepted log. At each cabinet,
--- the ticks rise and the versions are whole. If each download was a load of the scenario, no line shows a breach, to the tick
+-- these are the lines of a run with these journals: the first has the scenario, the others are an accepted log. At each
+-- cabinet the ticks rise and the versions are whole. If each download is a load of the scenario, no line shows a
+-- breach, to the tick
 pub record IsFaultless (s : ScenarioContent) (journals : List (List (List ℕ))) (lines : List Line) : Type 0 where
   pub rest : List Line
   pub first : lines ≡ S s.compact ∷ rest
@@ -38,7 +39,7 @@ pub record IsFaultless (s : ScenarioContent) (journals : List (List (List ℕ)))
   pub whole : (cab : ℕ) → Whole cab lines
   pub all : AllAreLoads s journals → breaches exact (tables_before s (reverse lines)) lines ≡ []
 
--- the text is that of a run of its scenario, with these journals; it has lines, and no others, in which a judge finds nothing
+-- the text is that of a run of its scenario with these journals, and consists of lines in which a judge finds no breach
 pub record TraceIsFaultless (text : List ℕ) : Type 0 where
   pub scenario : ScenarioContent
   pub journals : List (List (List ℕ))

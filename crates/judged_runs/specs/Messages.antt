@@ -1,5 +1,5 @@
--- What messages ask under the number of a load: if each agrees with that load, so does each download, however messages are lost,
--- repeated, delayed or mixed with others.
+-- What messages request under the number of a load. If each message agrees with its load, so does each download, even
+-- if messages are lost, repeated, delayed or mixed with others.
 use Rattle.std.specs.Prelude.{ℕ, ◌≡◌, Bool, true, false, is_some, List, length, map, Option, Some, None, IfSome}
 use Rattle.std.specs.List.{AllByRecursion}
 use Rattle.sig_types.specs.Items.{Item, Came}
@@ -19,12 +19,12 @@ use Rattle.agent.specs.Asks.{ask_of}
 use Rattle.judge_session.specs.Told.{load_told}
 use Rattle.run_definition.specs.CabinetState.{CabinetState, HasComeTo, opened_cabinet_states, cabinet_states_after}
 
--- these are the cells of the part with this number of a load, if there is such a load
+-- these are the cells of the part with this number of a load; if there is no such load, any cells are allowed
 abbrev pub IsPartOf : Option (List (Cell × Content)) → ℕ → List (Cell × Content) → Type 0
 IsPartOf None number cells = Unit {0}
 IsPartOf (Some own) number cells = cells ≡ part_cells own number
 
--- this is the number of its parts
+-- this is the number of parts of a load; if there is no such load, any number is allowed
 abbrev pub IsTotalOf : Option (List (Cell × Content)) → ℕ → Type 0
 IsTotalOf None total = Unit {0}
 IsTotalOf (Some own) total = total ≡ parts_for (length own)
@@ -34,32 +34,32 @@ abbrev pub IsFinishOf : Bool → Option (List (Cell × Content)) → Type 0
 IsFinishOf false load = Unit {0}
 IsFinishOf true load = is_some load ≡ true
 
--- a part or a total that is asked for agrees with the load of its number, and, if that is required, only loads are finished; anything
--- else may be asked
+-- a part or a total in a request agrees with the load of its number; if it is required, only loads are finished. Any
+-- other request is allowed
 abbrev pub IsOwnWish : Bool → (ℕ → Option (List (Cell × Content))) → Wish → Type 0
 IsOwnWish only load (Part id number puts) = IsPartOf (load id) number (map put_content puts.items)
 IsOwnWish only load (Verify id total) = IsTotalOf (load id) total
 IsOwnWish only load (Finish id) = IsFinishOf only (load id)
 IsOwnWish only load _ = Unit {0}
 
--- a message asks so, whatever tables are in force
+-- the message makes such a request, or none, with any tables in force
 abbrev pub IsOwnItem : Bool → (ℕ → Option (List (Cell × Content))) → List ℕ → Item → Type 0
 IsOwnItem only load community (Came octets) = (t : Tables) → IfSome (ask_of octets community t) (λ ask. IsOwnWish only load ask.wish)
 IsOwnItem only load community _ = Unit {0}
 
--- so does each message that reaches a cabinet in a run with these journals
+-- each message that reaches a cabinet in a run with these journals makes such a request, or none
 abbrev pub MessagesAreOwn : Bool → ScenarioContent → List (List (List ℕ)) → Type 0
 MessagesAreOwn only s journals = (cab : ℕ) (end : CabinetState) → HasComeTo cab end 1 (cabinet_states_after s (opened_cabinet_states s s.cabinets) journals)
     → AllByRecursion (IsOwnItem only (load_told s cab) end.cabinet_history.community) end.cabinet_history.items
 
--- a fault changes no octet of a message to a cabinet: it may lose, repeat, delay or cut it
+-- this kind of fault changes no byte of a message to a cabinet; it may lose, repeat, delay or truncate it
 abbrev pub leaves : Direction → FaultKind → Type 0
 leaves Up kind = Unit {0}
 leaves Down Flip = ⊥
 leaves Down _ = Unit {0}
 
--- no octet of a message to a cabinet is changed, and messages of other software ask for no other cells under the number of a load; nor,
--- if that is required, do they finish a download that is not a load
+-- no fault changes a byte of a message to a cabinet, and messages of other software request no other cells under the
+-- number of a load; if it is required, they finish only loads
 pub record IsPlainLink (only : Bool) (s : ScenarioContent) : Type 0 where
   pub frames : AllByRecursion (λ f. IsOwnItem only (load_told s f.cabinet) s.community (Came f.hex)) s.frames
   pub faults : AllByRecursion (λ f. leaves f.way f.kind) s.faults

@@ -1,5 +1,5 @@
--- Worked cases: what a download brings; what a log of one cabinet shows before and after a load that the scenario has not; and a run in
--- which a download has the number of a load and other cells.
+-- Worked cases: what a download puts in force; what a log of one cabinet shows before and after a load that the
+-- scenario doesn't have; a run in which a download has the number of a load but other cells.
 use Rattle.std.specs.Prelude.{ℕ, pos, false, List, [], ◌∷◌, replicate, codes, Ok}
 use Rattle.sig_types.specs.declared.frame.Colour.TheVariants.{Green, Red}
 use Rattle.sig_types.specs.declared.frame.Ped.TheVariants.{Dont}
@@ -22,23 +22,23 @@ use Rattle.stage_txn.specs.Calls.{Call, Begin, Part, Verify, Finish}
 abbrev pub yellow : List (Cell × Content)
 yellow = (Phase 2 8, Number 40) ∷ []
 
--- it is downloaded as load 1 into a cabinet with the tables max8, in one part; the newest call is first
+-- calls that download it as load 1 into a cabinet with the tables max8, in one part; the newest call is first
 abbrev pub one_download : List Call
 one_download = Finish 1 max8 false ∷ Verify 1 1 max8 false ∷ Part 1 1 yellow ∷ Begin 1 max8 ∷ []
 
--- phases 1 and 2, which conflict, are green together
+-- phases 1 and 2, which conflict, are both Green
 abbrev pub both_green : ℕ → ℕ → Line
 both_green tick version = F 1 tick (Green ∷ Green ∷ replicate 14 Red) (replicate 16 Dont) Free 0 0 version
 
--- a load with the number 7 is accepted
+-- load 7 is accepted
 abbrev pub seventh : Line
 seventh = L 1 7 (Ok 1)
 
--- a load of cabinet 1, which the master sends from round 2 on
+-- a load of cabinet 1 with these cells, which the master sends from round 2 on
 abbrev pub load_with : List (Cell × Content) → LoadContent
 load_with cells = record { round = 2; cabinet = 1; cells = cells }
 
--- a message of other software that takes a download of the yellow under the number 1 to a step
+-- a message of other software for a step of a download of the yellow, with number 1
 abbrev pub yellow_frame : ℕ → Step → FrameContent
 yellow_frame id step = record {
   round = 1;

@@ -1,4 +1,4 @@
--- The history adds, and what is expected of it.
+-- The history adds: its tables, its events, and the expected results.
 use Rattle.std.specs.Prelude.{List, [], codes, ◌∷◌}
 use Rattle.sig_types.specs.declared.frame.Mode.TheVariants.{Coord}
 use Rattle.sig_tables.specs.declared.tables.Tables.{Tables}
@@ -10,23 +10,23 @@ use Rattle.sig_tables.specs.Standard.{std8}
 use Rattle.known_histories.specs.Timeline.{Step, ticks, told_in_order}
 use Rattle.known_histories.specs.HistoryTold.{HistoryTold, line}
 
--- the tables that the cabinet opens with
+-- the opening tables of the cabinet
 abbrev pub adds_tables : Tables
 adds_tables =
     with_cells std8 (
     (UnitCell 1, Number 3) ∷ (UnitCell 3, Number 30) ∷ []
     )
 
--- what happens to it, in order
+-- the events of the cabinet, in order
 abbrev pub adds_timeline : List Step
 adds_timeline =
     []
 
--- its history: these steps, and the ticks after the last
+-- the history: these events, and the ticks after the last one
 abbrev pub adds_history : History
 adds_history = record { tables = adds_tables; command = 1; clock = 390; events = ticks 1100 (told_in_order adds_timeline []) }
 
--- what an independent program says of it, the newest line first
+-- the expected results, which an independent program computed; newest line first
 abbrev pub adds_told : HistoryTold
 adds_told = record {
   command = 1;

@@ -1,4 +1,4 @@
--- The history dwells, and what is expected of it.
+-- The history dwells: its tables, its events, and the expected results.
 use Rattle.std.specs.Prelude.{List, [], codes, ◌∷◌}
 use Rattle.sig_types.specs.declared.frame.Mode.TheVariants.{Coord}
 use Rattle.sig_tables.specs.declared.tables.Tables.{Tables}
@@ -7,20 +7,20 @@ use Rattle.sig_tables.specs.Standard.{std8}
 use Rattle.known_histories.specs.Timeline.{Step, ticks, told_in_order}
 use Rattle.known_histories.specs.HistoryTold.{HistoryTold, line}
 
--- the tables that the cabinet opens with
+-- the opening tables of the cabinet
 abbrev pub dwells_tables : Tables
 dwells_tables = std8
 
--- what happens to it, in order
+-- the events of the cabinet, in order
 abbrev pub dwells_timeline : List Step
 dwells_timeline =
     []
 
--- its history: these steps, and the ticks after the last
+-- the history: these events, and the ticks after the last one
 abbrev pub dwells_history : History
 dwells_history = record { tables = dwells_tables; command = 1; clock = 841; events = ticks 1100 (told_in_order dwells_timeline []) }
 
--- what an independent program says of it, the newest line first
+-- the expected results, which an independent program computed; newest line first
 abbrev pub dwells_told : HistoryTold
 dwells_told = record {
   command = 1;

@@ -1,4 +1,4 @@
--- The history end_of_green, and what is expected of it.
+-- The history end_of_green: its tables, its events, and the expected results.
 use Rattle.std.specs.Prelude.{List, [], codes, ◌∷◌}
 use Rattle.sig_types.specs.declared.frame.Mode.TheVariants.{Coord}
 use Rattle.sig_tables.specs.declared.tables.Tables.{Tables}
@@ -10,23 +10,23 @@ use Rattle.sig_tables.specs.Standard.{std8}
 use Rattle.known_histories.specs.Timeline.{Step, ticks, told_in_order}
 use Rattle.known_histories.specs.HistoryTold.{HistoryTold, line}
 
--- the tables that the cabinet opens with
+-- the opening tables of the cabinet
 abbrev pub end_of_green_tables : Tables
 end_of_green_tables =
     with_cells std8 (
     (UnitCell 8, Number 2) ∷ []
     )
 
--- what happens to it, in order
+-- the events of the cabinet, in order
 abbrev pub end_of_green_timeline : List Step
 end_of_green_timeline =
     []
 
--- its history: these steps, and the ticks after the last
+-- the history: these events, and the ticks after the last one
 abbrev pub end_of_green_history : History
 end_of_green_history = record { tables = end_of_green_tables; command = 1; clock = 840; events = ticks 1100 (told_in_order end_of_green_timeline []) }
 
--- what an independent program says of it, the newest line first
+-- the expected results, which an independent program computed; newest line first
 abbrev pub end_of_green_told : HistoryTold
 end_of_green_told = record {
   command = 1;

@@ -1,4 +1,4 @@
--- The history fixed_force, and what is expected of it.
+-- The history fixed_force: its tables, its events, and the expected results.
 use Rattle.std.specs.Prelude.{List, [], codes, ◌∷◌, true}
 use Rattle.sig_types.specs.declared.frame.Field.TheVariants.{Veh}
 use Rattle.sig_types.specs.declared.frame.Mode.TheVariants.{Coord}
@@ -8,20 +8,20 @@ use Rattle.sig_tables.specs.Standard.{std8}
 use Rattle.known_histories.specs.Timeline.{Step, ticks, told_in_order, after}
 use Rattle.known_histories.specs.HistoryTold.{HistoryTold, line}
 
--- the tables that the cabinet opens with
+-- the opening tables of the cabinet
 abbrev pub fixed_force_tables : Tables
 fixed_force_tables = std8
 
--- what happens to it, in order
+-- the events of the cabinet, in order
 abbrev pub fixed_force_timeline : List Step
 fixed_force_timeline =
     after 199 (Input (Veh 4 true)) ∷ []
 
--- its history: these steps, and the ticks after the last
+-- the history: these events, and the ticks after the last one
 abbrev pub fixed_force_history : History
 fixed_force_history = record { tables = fixed_force_tables; command = 1; clock = 840; events = ticks 631 (told_in_order fixed_force_timeline []) }
 
--- what an independent program says of it, the newest line first
+-- the expected results, which an independent program computed; newest line first
 abbrev pub fixed_force_told : HistoryTold
 fixed_force_told = record {
   command = 1;

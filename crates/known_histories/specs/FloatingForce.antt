@@ -1,4 +1,4 @@
--- The history floating_force, and what is expected of it.
+-- The history floating_force: its tables, its events, and the expected results.
 use Rattle.std.specs.Prelude.{List, [], codes, ◌∷◌, true}
 use Rattle.sig_types.specs.declared.frame.Field.TheVariants.{Veh}
 use Rattle.sig_types.specs.declared.frame.Mode.TheVariants.{Coord}
@@ -11,23 +11,23 @@ use Rattle.sig_tables.specs.Standard.{std8}
 use Rattle.known_histories.specs.Timeline.{Step, ticks, told_in_order, after}
 use Rattle.known_histories.specs.HistoryTold.{HistoryTold, line}
 
--- the tables that the cabinet opens with
+-- the opening tables of the cabinet
 abbrev pub floating_force_tables : Tables
 floating_force_tables =
     with_cells std8 (
     (UnitCell 7, Number 2) ∷ []
     )
 
--- what happens to it, in order
+-- the events of the cabinet, in order
 abbrev pub floating_force_timeline : List Step
 floating_force_timeline =
     after 199 (Input (Veh 4 true)) ∷ []
 
--- its history: these steps, and the ticks after the last
+-- the history: these events, and the ticks after the last one
 abbrev pub floating_force_history : History
 floating_force_history = record { tables = floating_force_tables; command = 1; clock = 840; events = ticks 501 (told_in_order floating_force_timeline []) }
 
--- what an independent program says of it, the newest line first
+-- the expected results, which an independent program computed; newest line first
 abbrev pub floating_force_told : HistoryTold
 floating_force_told = record {
   command = 1;

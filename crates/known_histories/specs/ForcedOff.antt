@@ -1,4 +1,4 @@
--- The history forced_off, and what is expected of it.
+-- The history forced_off: its tables, its events, and the expected results.
 use Rattle.std.specs.Prelude.{List, [], codes, ◌∷◌, true, false}
 use Rattle.sig_types.specs.declared.frame.Field.TheVariants.{Veh}
 use Rattle.sig_types.specs.declared.frame.Mode.TheVariants.{Coord}
@@ -8,20 +8,20 @@ use Rattle.sig_tables.specs.Standard.{std8}
 use Rattle.known_histories.specs.Timeline.{Step, ticks, told_in_order, after}
 use Rattle.known_histories.specs.HistoryTold.{HistoryTold, line}
 
--- the tables that the cabinet opens with
+-- the opening tables of the cabinet
 abbrev pub forced_off_tables : Tables
 forced_off_tables = std8
 
--- what happens to it, in order
+-- the events of the cabinet, in order
 abbrev pub forced_off_timeline : List Step
 forced_off_timeline =
     after 199 (Input (Veh 3 true)) ∷ after 1 (Input (Veh 3 false)) ∷ []
 
--- its history: these steps, and the ticks after the last
+-- the history: these events, and the ticks after the last one
 abbrev pub forced_off_history : History
 forced_off_history = record { tables = forced_off_tables; command = 1; clock = 840; events = ticks 800 (told_in_order forced_off_timeline []) }
 
--- what an independent program says of it, the newest line first
+-- the expected results, which an independent program computed; newest line first
 abbrev pub forced_off_told : HistoryTold
 forced_off_told = record {
   command = 1;

@@ -1,4 +1,4 @@
--- The history gains_often, and what is expected of it.
+-- The history gains_often: its tables, its events, and the expected results.
 use Rattle.std.specs.Prelude.{List, [], codes, ◌∷◌, true}
 use Rattle.sig_types.specs.declared.frame.Field.TheVariants.{Veh}
 use Rattle.sig_types.specs.declared.frame.Mode.TheVariants.{Coord}
@@ -11,23 +11,23 @@ use Rattle.sig_tables.specs.Standard.{std8}
 use Rattle.known_histories.specs.Timeline.{Step, ticks, told_in_order, after}
 use Rattle.known_histories.specs.HistoryTold.{HistoryTold, line}
 
--- the tables that the cabinet opens with
+-- the opening tables of the cabinet
 abbrev pub gains_often_tables : Tables
 gains_often_tables =
     with_cells std8 (
     (UnitCell 1, Number 3) ∷ (UnitCell 8, Number 2) ∷ []
     )
 
--- what happens to it, in order
+-- the events of the cabinet, in order
 abbrev pub gains_often_timeline : List Step
 gains_often_timeline =
     after 0 (SetDrift 7 0) ∷ after 199 (Input (Veh 4 true)) ∷ []
 
--- its history: these steps, and the ticks after the last
+-- the history: these events, and the ticks after the last one
 abbrev pub gains_often_history : History
 gains_often_history = record { tables = gains_often_tables; command = 1; clock = 863700; events = ticks 301 (told_in_order gains_often_timeline []) }
 
--- what an independent program says of it, the newest line first
+-- the expected results, which an independent program computed; newest line first
 abbrev pub gains_often_told : HistoryTold
 gains_often_told = record {
   command = 1;

@@ -1,4 +1,4 @@
--- The history held_by_request, and what is expected of it.
+-- The history held_by_request: its tables, its events, and the expected results.
 use Rattle.std.specs.Prelude.{List, [], codes, ◌∷◌, true, false}
 use Rattle.sig_types.specs.declared.frame.Field.TheVariants.{Veh}
 use Rattle.sig_types.specs.declared.frame.Mode.TheVariants.{Coord}
@@ -8,20 +8,20 @@ use Rattle.sig_tables.specs.Standard.{std8}
 use Rattle.known_histories.specs.Timeline.{Step, ticks, told_in_order, after, request}
 use Rattle.known_histories.specs.HistoryTold.{HistoryTold, line}
 
--- the tables that the cabinet opens with
+-- the opening tables of the cabinet
 abbrev pub held_by_request_tables : Tables
 held_by_request_tables = std8
 
--- what happens to it, in order
+-- the events of the cabinet, in order
 abbrev pub held_by_request_timeline : List Step
 held_by_request_timeline =
     after 99 (Ask (request 1 1 1 2 0 600)) ∷ after 100 (Input (Veh 3 true)) ∷ after 1 (Input (Veh 3 false)) ∷ []
 
--- its history: these steps, and the ticks after the last
+-- the history: these events, and the ticks after the last one
 abbrev pub held_by_request_history : History
 held_by_request_history = record { tables = held_by_request_tables; command = 1; clock = 840; events = ticks 1220 (told_in_order held_by_request_timeline []) }
 
--- what an independent program says of it, the newest line first
+-- the expected results, which an independent program computed; newest line first
 abbrev pub held_by_request_told : HistoryTold
 held_by_request_told = record {
   command = 1;

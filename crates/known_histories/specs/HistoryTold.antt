@@ -1,5 +1,5 @@
--- What a history says: a line for each tick at which the frame shows something new or is a local zero, as a trace has
--- them; sums over all ticks, so that each one counts; and what is shown at the end.
+-- The results of a history: a line for each tick whose frame shows something new or is a local zero, as in a trace;
+-- sums over all ticks, so that each tick counts; and the state at the end.
 use Rattle.std.specs.Prelude.{ℕ, ◌+◌, ◌&&◌, not, if◌then◌else◌, List, [], ◌∷◌, ◌++◌, codes}
 use Rattle.sig_types.specs.declared.frame.Colour.{Colour}
 use Rattle.sig_types.specs.declared.frame.Colour.TheVariants.{Green, Yellow, Clear, Red}
@@ -24,7 +24,7 @@ abbrev pub letters : List Colour → List ℕ
 letters [] = []
 letters (c ∷ cs) = letter_of c ++ letters cs
 
--- and what they show to pedestrians
+-- the pedestrian signals of all phases as letters
 abbrev pub signal_letter : Ped → List ℕ
 signal_letter Walk = codes "W"
 signal_letter Flash = codes "F"
@@ -60,12 +60,12 @@ abbrev pub line_of : Moment → Line
 line_of m =
     line m.number (letters m.frame.veh) (signal_letters m.frame.ped) m.frame.mode m.frame.counter m.frame.target m.frame.version
 
--- the line of a moment where one is expected, after that of the moment before it, and the other lines
+-- the lines with that of moment m, if it has one; n is the moment before m
 abbrev pub line_before : Moment → Moment → List Line → List Line
 line_before m n lines =
     if shows_same n.frame m.frame && not (is_local_zero m.frame.mode m.frame.counter n.frame) then lines else line_of m ∷ lines
 
--- the lines of these moments, the newest first; the first moment has none
+-- the lines of these moments, newest first; the first moment has none
 abbrev pub lines_from : Moment → List Moment → List Line
 lines_from m [] = []
 lines_from m (n ∷ past) = line_before m n (lines_from n past)
@@ -96,8 +96,8 @@ sums_of past = record {
   active = sum_over (λ m. m.active) past;
 }
 
--- all of it: at the end the pattern in command, the clock, the version, the states of the ten requests and the locked calls;
--- the sums; and the lines
+-- all results: at the end the commanded pattern, the clock, the version, the states of the ten requests and the locked
+-- calls; then the sums and the lines
 pub record HistoryTold : Type 0 where
   pub command : ℕ
   pub clock : ℕ

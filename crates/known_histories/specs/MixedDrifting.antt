@@ -1,4 +1,4 @@
--- The history mixed_drifting, and what is expected of it.
+-- The history mixed_drifting: its tables, its events, and the expected results.
 use Rattle.std.specs.Prelude.{List, [], codes, ◌∷◌, true, false}
 use Rattle.sig_types.specs.declared.frame.Field.TheVariants.{Veh, Ped as Button, Preempt as PreemptInput}
 use Rattle.sig_types.specs.declared.frame.Mode.TheVariants.{Seek, Coord, Entry, Track, Dwell}
@@ -11,7 +11,7 @@ use Rattle.sig_tables.specs.Standard.{std8}
 use Rattle.known_histories.specs.Timeline.{Step, ticks, told_in_order, after, request}
 use Rattle.known_histories.specs.HistoryTold.{HistoryTold, line}
 
--- the tables that the cabinet opens with
+-- the opening tables of the cabinet
 abbrev pub mixed_drifting_tables : Tables
 mixed_drifting_tables =
     with_cells std8 (
@@ -67,14 +67,14 @@ mixed_drifting_tables =
     ∷ (UnitCell 7, Number 2) ∷ (UnitCell 8, Number 2) ∷ []
     )
 
--- what a download makes of them
+-- the tables after this download
 abbrev pub mixed_drifting_download_1 : Tables
 mixed_drifting_download_1 =
     with_cells mixed_drifting_tables (
     (Phase 12 2, Number 1) ∷ (Phase 13 5, Number 2) ∷ []
     )
 
--- what a download makes of them
+-- the tables after this download
 abbrev pub mixed_drifting_download_2 : Tables
 mixed_drifting_download_2 =
     with_cells mixed_drifting_download_1 (
@@ -82,7 +82,7 @@ mixed_drifting_download_2 =
     ∷ (Phase 9 9, Number 11) ∷ (Phase 15 8, Number 38) ∷ []
     )
 
--- what happens to it, in order
+-- the events of the cabinet, in order
 abbrev pub mixed_drifting_timeline : List Step
 mixed_drifting_timeline =
     after 0 (SetDrift 0 31) ∷ after 20 (Input (PreemptInput 4 false)) ∷ after 2 (Input (Button 9))
@@ -99,11 +99,11 @@ mixed_drifting_timeline =
     ∷ after 11 (Input (Button 12)) ∷ after 22 (Input (Veh 6 false)) ∷ after 15 (Input (Button 7))
     ∷ after 7 (Input (Veh 13 false)) ∷ []
 
--- its history: these steps, and the ticks after the last
+-- the history: these events, and the ticks after the last one
 abbrev pub mixed_drifting_history : History
 mixed_drifting_history = record { tables = mixed_drifting_tables; command = 1; clock = 863710; events = ticks 9 (told_in_order mixed_drifting_timeline []) }
 
--- what an independent program says of it, the newest line first
+-- the expected results, which an independent program computed; newest line first
 abbrev pub mixed_drifting_told : HistoryTold
 mixed_drifting_told = record {
   command = 1;

@@ -1,4 +1,4 @@
--- The history mixed_fifth, and what is expected of it.
+-- The history mixed_fifth: its tables, its events, and the expected results.
 use Rattle.std.specs.Prelude.{List, [], codes, ◌∷◌, true, false}
 use Rattle.sig_types.specs.declared.frame.Field.TheVariants.{Veh, Ped as Button, Preempt as PreemptInput}
 use Rattle.sig_types.specs.declared.frame.Mode.TheVariants.{Start, Seek, Coord, Entry, Dwell}
@@ -11,7 +11,7 @@ use Rattle.sig_tables.specs.Standard.{std8}
 use Rattle.known_histories.specs.Timeline.{Step, ticks, told_in_order, after}
 use Rattle.known_histories.specs.HistoryTold.{HistoryTold, line}
 
--- the tables that the cabinet opens with
+-- the opening tables of the cabinet
 abbrev pub mixed_fifth_tables : Tables
 mixed_fifth_tables =
     with_cells std8 (
@@ -43,7 +43,7 @@ mixed_fifth_tables =
     ∷ (UnitCell 4, Number 33) ∷ []
     )
 
--- what a download makes of them
+-- the tables after this download
 abbrev pub mixed_fifth_download_1 : Tables
 mixed_fifth_download_1 =
     with_cells mixed_fifth_tables (
@@ -51,7 +51,7 @@ mixed_fifth_download_1 =
     ∷ (Phase 11 6, Number 16) ∷ (Phase 11 21, Number 65) ∷ []
     )
 
--- what a download makes of them
+-- the tables after this download
 abbrev pub mixed_fifth_download_2 : Tables
 mixed_fifth_download_2 =
     with_cells mixed_fifth_download_1 (
@@ -61,7 +61,7 @@ mixed_fifth_download_2 =
     ∷ (PreemptCell 8 15, Octets ([])) ∷ []
     )
 
--- what happens to it, in order
+-- the events of the cabinet, in order
 abbrev pub mixed_fifth_timeline : List Step
 mixed_fifth_timeline =
     after 3 (Input (Veh 11 true)) ∷ after 12 (Input (Button 15)) ∷ after 8 (Input (Veh 3 false))
@@ -76,11 +76,11 @@ mixed_fifth_timeline =
     ∷ after 2 (Input (Veh 3 false)) ∷ after 2 (Input (Veh 12 false)) ∷ after 15 (Input (Veh 16 true))
     ∷ after 4 (Input (Veh 4 false)) ∷ []
 
--- its history: these steps, and the ticks after the last
+-- the history: these events, and the ticks after the last one
 abbrev pub mixed_fifth_history : History
 mixed_fifth_history = record { tables = mixed_fifth_tables; command = 1; clock = 2298; events = ticks 6 (told_in_order mixed_fifth_timeline []) }
 
--- what an independent program says of it, the newest line first
+-- the expected results, which an independent program computed; newest line first
 abbrev pub mixed_fifth_told : HistoryTold
 mixed_fifth_told = record {
   command = 1;

@@ -1,4 +1,4 @@
--- The history mixed_first, and what is expected of it.
+-- The history mixed_first: its tables, its events, and the expected results.
 use Rattle.std.specs.Prelude.{List, [], codes, ◌∷◌, true, false}
 use Rattle.sig_types.specs.declared.frame.Field.TheVariants.{Veh, Ped as Button}
 use Rattle.sig_types.specs.declared.frame.Mode.TheVariants.{Start, Free, Seek, Coord, Ending, Flash}
@@ -11,7 +11,7 @@ use Rattle.sig_tables.specs.Standard.{std8}
 use Rattle.known_histories.specs.Timeline.{Step, ticks, told_in_order, after}
 use Rattle.known_histories.specs.HistoryTold.{HistoryTold, line}
 
--- the tables that the cabinet opens with
+-- the opening tables of the cabinet
 abbrev pub mixed_first_tables : Tables
 mixed_first_tables =
     with_cells std8 (
@@ -65,7 +65,7 @@ mixed_first_tables =
     ∷ (UnitCell 4, Number 20) ∷ []
     )
 
--- what a download makes of them
+-- the tables after this download
 abbrev pub mixed_first_download_1 : Tables
 mixed_first_download_1 =
     with_cells mixed_first_tables (
@@ -78,28 +78,28 @@ mixed_first_download_1 =
     ∷ (UnitCell 2, Number 4) ∷ (UnitCell 3, Number 71) ∷ (UnitCell 4, Number 35) ∷ []
     )
 
--- what a download makes of them
+-- the tables after this download
 abbrev pub mixed_first_download_2 : Tables
 mixed_first_download_2 =
     with_cells mixed_first_download_1 (
     (Sequence 1 1, Octets (7 ∷ 6 ∷ 5 ∷ 10 ∷ 3 ∷ 1 ∷ 13 ∷ [])) ∷ (Sequence 1 2, Octets (9 ∷ 14 ∷ 2 ∷ [])) ∷ []
     )
 
--- what a download makes of them
+-- the tables after this download
 abbrev pub mixed_first_download_3 : Tables
 mixed_first_download_3 =
     with_cells mixed_first_download_2 (
     (Sequence 3 1, Octets (1 ∷ 13 ∷ 10 ∷ 5 ∷ 6 ∷ 3 ∷ 7 ∷ [])) ∷ (Sequence 3 2, Octets (2 ∷ 14 ∷ 9 ∷ [])) ∷ []
     )
 
--- what a download makes of them
+-- the tables after this download
 abbrev pub mixed_first_download_4 : Tables
 mixed_first_download_4 =
     with_cells mixed_first_download_3 (
     (Sequence 3 1, Octets (13 ∷ 1 ∷ 5 ∷ 6 ∷ 3 ∷ 10 ∷ 7 ∷ [])) ∷ []
     )
 
--- what happens to it, in order
+-- the events of the cabinet, in order
 abbrev pub mixed_first_timeline : List Step
 mixed_first_timeline =
     after 1 (Install mixed_first_download_1) ∷ after 2 (Input (Veh 9 false)) ∷ after 34 (Input (Veh 6 true))
@@ -116,11 +116,11 @@ mixed_first_timeline =
     ∷ after 6 (Input (Veh 14 false)) ∷ after 22 (Input (Veh 3 false)) ∷ after 35 (Input (Veh 14 false))
     ∷ after 8 (SetPattern 44) ∷ after 19 (Input (Veh 3 false)) ∷ []
 
--- its history: these steps, and the ticks after the last
+-- the history: these events, and the ticks after the last one
 abbrev pub mixed_first_history : History
 mixed_first_history = record { tables = mixed_first_tables; command = 6; clock = 863949; events = ticks 1 (told_in_order mixed_first_timeline []) }
 
--- what an independent program says of it, the newest line first
+-- the expected results, which an independent program computed; newest line first
 abbrev pub mixed_first_told : HistoryTold
 mixed_first_told = record {
   command = 44;

@@ -1,4 +1,4 @@
--- The history mixed_fourth, and what is expected of it.
+-- The history mixed_fourth: its tables, its events, and the expected results.
 use Rattle.std.specs.Prelude.{List, [], codes, ◌∷◌, true, false}
 use Rattle.sig_types.specs.declared.frame.Field.TheVariants.{Veh, Ped as Button, Preempt as PreemptInput}
 use Rattle.sig_types.specs.declared.frame.Mode.TheVariants.{Free, Coord, Ending, Entry, Dwell, Exit}
@@ -11,7 +11,7 @@ use Rattle.sig_tables.specs.Standard.{std8}
 use Rattle.known_histories.specs.Timeline.{Step, ticks, told_in_order, after}
 use Rattle.known_histories.specs.HistoryTold.{HistoryTold, line}
 
--- the tables that the cabinet opens with
+-- the opening tables of the cabinet
 abbrev pub mixed_fourth_tables : Tables
 mixed_fourth_tables =
     with_cells std8 (
@@ -42,7 +42,7 @@ mixed_fourth_tables =
     ∷ (UnitCell 3, Number 213) ∷ (UnitCell 4, Number 54) ∷ []
     )
 
--- what happens to it, in order
+-- the events of the cabinet, in order
 abbrev pub mixed_fourth_timeline : List Step
 mixed_fourth_timeline =
     after 8 (SetPattern 0) ∷ after 16 (Input (PreemptInput 6 true)) ∷ after 2 (Input (Veh 4 true))
@@ -60,11 +60,11 @@ mixed_fourth_timeline =
     ∷ after 23 (Input (PreemptInput 6 false)) ∷ after 25 (Input (Veh 3 true)) ∷ after 10 (Input (Button 4))
     ∷ after 0 (Input (Veh 8 false)) ∷ []
 
--- its history: these steps, and the ticks after the last
+-- the history: these events, and the ticks after the last one
 abbrev pub mixed_fourth_history : History
 mixed_fourth_history = record { tables = mixed_fourth_tables; command = 36; clock = 863641; events = ticks 7 (told_in_order mixed_fourth_timeline []) }
 
--- what an independent program says of it, the newest line first
+-- the expected results, which an independent program computed; newest line first
 abbrev pub mixed_fourth_told : HistoryTold
 mixed_fourth_told = record {
   command = 36;

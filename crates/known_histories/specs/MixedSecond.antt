@@ -1,4 +1,4 @@
--- The history mixed_second, and what is expected of it.
+-- The history mixed_second: its tables, its events, and the expected results.
 use Rattle.std.specs.Prelude.{List, [], codes, ◌∷◌, true, false}
 use Rattle.sig_types.specs.declared.frame.Field.TheVariants.{Veh, Ped as Button, Preempt as PreemptInput}
 use Rattle.sig_types.specs.declared.frame.Mode.TheVariants.{Start, Free, Seek, Coord, Flash}
@@ -11,7 +11,7 @@ use Rattle.sig_tables.specs.Standard.{std8}
 use Rattle.known_histories.specs.Timeline.{Step, ticks, told_in_order, after, request}
 use Rattle.known_histories.specs.HistoryTold.{HistoryTold, line}
 
--- the tables that the cabinet opens with
+-- the opening tables of the cabinet
 abbrev pub mixed_second_tables : Tables
 mixed_second_tables =
     with_cells std8 (
@@ -44,21 +44,21 @@ mixed_second_tables =
     ∷ (UnitCell 4, Number 62) ∷ (UnitCell 5, Number 15) ∷ []
     )
 
--- what a download makes of them
+-- the tables after this download
 abbrev pub mixed_second_download_1 : Tables
 mixed_second_download_1 =
     with_cells mixed_second_tables (
     (Phase 2 5, Number 18) ∷ (Phase 4 5, Number 5) ∷ (Phase 6 6, Number 1) ∷ (Phase 7 8, Number 33) ∷ []
     )
 
--- what a download makes of them
+-- the tables after this download
 abbrev pub mixed_second_download_2 : Tables
 mixed_second_download_2 =
     with_cells mixed_second_download_1 (
     (Sequence 2 1, Octets (7 ∷ 8 ∷ 4 ∷ 3 ∷ [])) ∷ (Sequence 2 2, Octets (1 ∷ 2 ∷ 5 ∷ 6 ∷ [])) ∷ []
     )
 
--- what a download makes of them
+-- the tables after this download
 abbrev pub mixed_second_download_3 : Tables
 mixed_second_download_3 =
     with_cells mixed_second_download_2 (
@@ -66,14 +66,14 @@ mixed_second_download_3 =
     ∷ (Phase 7 9, Number 19) ∷ (Phase 7 21, Number 65) ∷ []
     )
 
--- what a download makes of them
+-- the tables after this download
 abbrev pub mixed_second_download_4 : Tables
 mixed_second_download_4 =
     with_cells mixed_second_download_3 (
     (Phase 1 21, Number 1025) ∷ (Phase 3 5, Number 10) ∷ (Phase 4 6, Number 7) ∷ (Phase 7 5, Number 13) ∷ []
     )
 
--- what happens to it, in order
+-- the events of the cabinet, in order
 abbrev pub mixed_second_timeline : List Step
 mixed_second_timeline =
     after 17 (Input (Veh 14 true)) ∷ after 0 (Input (Veh 6 true)) ∷ after 0 (Cancel 2) ∷ after 4 (Input (Veh 1 true))
@@ -92,11 +92,11 @@ mixed_second_timeline =
     ∷ after 22 (Input (Veh 4 false)) ∷ after 1 (Input (Button 7)) ∷ after 7 (Input (Veh 7 true))
     ∷ after 9 (Input (Button 1)) ∷ after 8 (Input (Veh 2 true)) ∷ []
 
--- its history: these steps, and the ticks after the last
+-- the history: these events, and the ticks after the last one
 abbrev pub mixed_second_history : History
 mixed_second_history = record { tables = mixed_second_tables; command = 255; clock = 424994; events = ticks 26 (told_in_order mixed_second_timeline []) }
 
--- what an independent program says of it, the newest line first
+-- the expected results, which an independent program computed; newest line first
 abbrev pub mixed_second_told : HistoryTold
 mixed_second_told = record {
   command = 0;

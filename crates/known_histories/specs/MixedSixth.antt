@@ -1,4 +1,4 @@
--- The history mixed_sixth, and what is expected of it.
+-- The history mixed_sixth: its tables, its events, and the expected results.
 use Rattle.std.specs.Prelude.{List, [], codes, ◌∷◌, true, false}
 use Rattle.sig_types.specs.declared.frame.Field.TheVariants.{Veh, Ped as Button, Preempt as PreemptInput}
 use Rattle.sig_types.specs.declared.frame.Mode.TheVariants.{Seek, Coord, Entry, Dwell, Exit}
@@ -11,7 +11,7 @@ use Rattle.sig_tables.specs.Standard.{std8}
 use Rattle.known_histories.specs.Timeline.{Step, ticks, told_in_order, after, request}
 use Rattle.known_histories.specs.HistoryTold.{HistoryTold, line}
 
--- the tables that the cabinet opens with
+-- the opening tables of the cabinet
 abbrev pub mixed_sixth_tables : Tables
 mixed_sixth_tables =
     with_cells std8 (
@@ -61,28 +61,28 @@ mixed_sixth_tables =
     ∷ (UnitCell 3, Number 92) ∷ (UnitCell 4, Number 27) ∷ (UnitCell 5, Number 14) ∷ (UnitCell 6, Number 1) ∷ []
     )
 
--- what a download makes of them
+-- the tables after this download
 abbrev pub mixed_sixth_download_1 : Tables
 mixed_sixth_download_1 =
     with_cells mixed_sixth_tables (
     (Sequence 2 1, Octets (1 ∷ 7 ∷ 2 ∷ [])) ∷ (Sequence 2 2, Octets (6 ∷ 4 ∷ 3 ∷ 5 ∷ 8 ∷ [])) ∷ []
     )
 
--- what a download makes of them
+-- the tables after this download
 abbrev pub mixed_sixth_download_2 : Tables
 mixed_sixth_download_2 =
     with_cells mixed_sixth_download_1 (
     (Sequence 3 1, Octets (1 ∷ 7 ∷ 2 ∷ [])) ∷ (Sequence 3 2, Octets (6 ∷ 3 ∷ 4 ∷ 5 ∷ 8 ∷ [])) ∷ []
     )
 
--- what a download makes of them
+-- the tables after this download
 abbrev pub mixed_sixth_download_3 : Tables
 mixed_sixth_download_3 =
     with_cells mixed_sixth_download_2 (
     (Phase 7 8, Number 36) ∷ (Phase 7 21, Number 257) ∷ (Phase 8 8, Number 50) ∷ []
     )
 
--- what happens to it, in order
+-- the events of the cabinet, in order
 abbrev pub mixed_sixth_timeline : List Step
 mixed_sixth_timeline =
     after 7 (Input (Veh 6 true)) ∷ after 2 (Input (PreemptInput 2 true)) ∷ after 13 (Ask (request 1 1 2 4 46 243))
@@ -98,11 +98,11 @@ mixed_sixth_timeline =
     ∷ after 28 (SetClock 1658) ∷ after 17 (SetPattern 37) ∷ after 9 (Input (Veh 3 true))
     ∷ after 7 (Input (Veh 6 true)) ∷ after 44 (Install mixed_sixth_download_3) ∷ after 26 (Input (Veh 5 true)) ∷ []
 
--- its history: these steps, and the ticks after the last
+-- the history: these events, and the ticks after the last one
 abbrev pub mixed_sixth_history : History
 mixed_sixth_history = record { tables = mixed_sixth_tables; command = 39; clock = 1193; events = ticks 6 (told_in_order mixed_sixth_timeline []) }
 
--- what an independent program says of it, the newest line first
+-- the expected results, which an independent program computed; newest line first
 abbrev pub mixed_sixth_told : HistoryTold
 mixed_sixth_told = record {
   command = 37;

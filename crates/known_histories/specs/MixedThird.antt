@@ -1,4 +1,4 @@
--- The history mixed_third, and what is expected of it.
+-- The history mixed_third: its tables, its events, and the expected results.
 use Rattle.std.specs.Prelude.{List, [], codes, ◌∷◌, true, false}
 use Rattle.sig_types.specs.declared.frame.Field.TheVariants.{Veh, Ped as Button}
 use Rattle.sig_types.specs.declared.frame.Mode.TheVariants.{Start, Free, Seek, Ending, Flash}
@@ -11,7 +11,7 @@ use Rattle.sig_tables.specs.Standard.{std8}
 use Rattle.known_histories.specs.Timeline.{Step, ticks, told_in_order, after, request}
 use Rattle.known_histories.specs.HistoryTold.{HistoryTold, line}
 
--- the tables that the cabinet opens with
+-- the opening tables of the cabinet
 abbrev pub mixed_third_tables : Tables
 mixed_third_tables =
     with_cells std8 (
@@ -37,21 +37,21 @@ mixed_third_tables =
     ∷ (UnitCell 5, Number 12) ∷ (UnitCell 6, Number 10) ∷ []
     )
 
--- what a download makes of them
+-- the tables after this download
 abbrev pub mixed_third_download_1 : Tables
 mixed_third_download_1 =
     with_cells mixed_third_tables (
     (Sequence 2 1, Octets (2 ∷ 1 ∷ 3 ∷ 4 ∷ [])) ∷ (Sequence 2 2, Octets (5 ∷ 6 ∷ 8 ∷ 7 ∷ [])) ∷ []
     )
 
--- what a download makes of them
+-- the tables after this download
 abbrev pub mixed_third_download_2 : Tables
 mixed_third_download_2 =
     with_cells mixed_third_download_1 (
     (Phase 1 21, Number 33) ∷ (Phase 6 9, Number 24) ∷ (Phase 8 2, Number 1) ∷ (Phase 8 3, Number 0) ∷ []
     )
 
--- what a download makes of them
+-- the tables after this download
 abbrev pub mixed_third_download_3 : Tables
 mixed_third_download_3 =
     with_cells mixed_third_download_2 (
@@ -59,14 +59,14 @@ mixed_third_download_3 =
     ∷ (Phase 6 21, Number 257) ∷ (Phase 8 10, Number 8) ∷ []
     )
 
--- what a download makes of them
+-- the tables after this download
 abbrev pub mixed_third_download_4 : Tables
 mixed_third_download_4 =
     with_cells mixed_third_download_3 (
     (Phase 8 6, Number 4) ∷ []
     )
 
--- what happens to it, in order
+-- the events of the cabinet, in order
 abbrev pub mixed_third_timeline : List Step
 mixed_third_timeline =
     after 3 (Install mixed_third_download_1) ∷ after 31 (Input (Veh 3 false)) ∷ after 22 (Input (Veh 5 false))
@@ -85,11 +85,11 @@ mixed_third_timeline =
     ∷ after 13 (Input (Veh 7 true)) ∷ after 15 (Input (Veh 6 false)) ∷ after 10 (Input (Button 1))
     ∷ after 2 (Input (Veh 8 true)) ∷ after 12 (Input (Veh 8 false)) ∷ []
 
--- its history: these steps, and the ticks after the last
+-- the history: these events, and the ticks after the last one
 abbrev pub mixed_third_history : History
 mixed_third_history = record { tables = mixed_third_tables; command = 1; clock = 863607; events = ticks 46 (told_in_order mixed_third_timeline []) }
 
--- what an independent program says of it, the newest line first
+-- the expected results, which an independent program computed; newest line first
 abbrev pub mixed_third_told : HistoryTold
 mixed_third_told = record {
   command = 0;

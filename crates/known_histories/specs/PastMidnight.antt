@@ -1,4 +1,4 @@
--- The history past_midnight, and what is expected of it.
+-- The history past_midnight: its tables, its events, and the expected results.
 use Rattle.std.specs.Prelude.{List, [], codes, ◌∷◌}
 use Rattle.sig_types.specs.declared.frame.Mode.TheVariants.{Coord}
 use Rattle.sig_tables.specs.declared.tables.Tables.{Tables}
@@ -10,7 +10,7 @@ use Rattle.sig_tables.specs.Standard.{std8}
 use Rattle.known_histories.specs.Timeline.{Step, ticks, told_in_order}
 use Rattle.known_histories.specs.HistoryTold.{HistoryTold, line}
 
--- the tables that the cabinet opens with
+-- the opening tables of the cabinet
 abbrev pub past_midnight_tables : Tables
 past_midnight_tables =
     with_cells std8 (
@@ -21,16 +21,16 @@ past_midnight_tables =
     ∷ (PatternCell 1 2, Number 70) ∷ []
     )
 
--- what happens to it, in order
+-- the events of the cabinet, in order
 abbrev pub past_midnight_timeline : List Step
 past_midnight_timeline =
     []
 
--- its history: these steps, and the ticks after the last
+-- the history: these events, and the ticks after the last one
 abbrev pub past_midnight_history : History
 past_midnight_history = record { tables = past_midnight_tables; command = 1; clock = 863740; events = ticks 770 (told_in_order past_midnight_timeline []) }
 
--- what an independent program says of it, the newest line first
+-- the expected results, which an independent program computed; newest line first
 abbrev pub past_midnight_told : HistoryTold
 past_midnight_told = record {
   command = 1;

@@ -1,4 +1,4 @@
--- The history preempted_late, and what is expected of it.
+-- The history preempted_late: its tables, its events, and the expected results.
 use Rattle.std.specs.Prelude.{List, [], codes, ◌∷◌, true, false}
 use Rattle.sig_types.specs.declared.frame.Field.TheVariants.{Ped as Button, Preempt as PreemptInput}
 use Rattle.sig_types.specs.declared.frame.Mode.TheVariants.{Free, Entry, Dwell}
@@ -11,7 +11,7 @@ use Rattle.sig_tables.specs.Standard.{std8}
 use Rattle.known_histories.specs.Timeline.{Step, ticks, told_in_order, after}
 use Rattle.known_histories.specs.HistoryTold.{HistoryTold, line}
 
--- the tables that the cabinet opens with
+-- the opening tables of the cabinet
 abbrev pub preempted_late_tables : Tables
 preempted_late_tables =
     with_cells std8 (
@@ -19,17 +19,17 @@ preempted_late_tables =
     ∷ (PreemptCell 1 8, Number 8) ∷ (PreemptCell 1 10, Number 5) ∷ (PreemptCell 1 13, Octets (2 ∷ 6 ∷ [])) ∷ []
     )
 
--- what happens to it, in order
+-- the events of the cabinet, in order
 abbrev pub preempted_late_timeline : List Step
 preempted_late_timeline =
     after 60 (Input (Button 4)) ∷ after 254 (Input (PreemptInput 1 true)) ∷ after 85 (Input (PreemptInput 1 false))
     ∷ []
 
--- its history: these steps, and the ticks after the last
+-- the history: these events, and the ticks after the last one
 abbrev pub preempted_late_history : History
 preempted_late_history = record { tables = preempted_late_tables; command = 0; clock = 0; events = ticks 201 (told_in_order preempted_late_timeline []) }
 
--- what an independent program says of it, the newest line first
+-- the expected results, which an independent program computed; newest line first
 abbrev pub preempted_late_told : HistoryTold
 preempted_late_told = record {
   command = 0;

@@ -1,4 +1,4 @@
--- The history sets_emptied, and what is expected of it.
+-- The history sets_emptied: its tables, its events, and the expected results.
 use Rattle.std.specs.Prelude.{List, [], codes, ◌∷◌, true, false}
 use Rattle.sig_types.specs.declared.frame.Field.TheVariants.{Veh, Preempt as PreemptInput}
 use Rattle.sig_types.specs.declared.frame.Mode.TheVariants.{Free, Entry, Dwell, Exit}
@@ -11,7 +11,7 @@ use Rattle.sig_tables.specs.Standard.{std8}
 use Rattle.known_histories.specs.Timeline.{Step, ticks, told_in_order, after}
 use Rattle.known_histories.specs.HistoryTold.{HistoryTold, line}
 
--- the tables that the cabinet opens with
+-- the opening tables of the cabinet
 abbrev pub sets_emptied_tables : Tables
 sets_emptied_tables =
     with_cells std8 (
@@ -56,56 +56,56 @@ sets_emptied_tables =
     ∷ (UnitCell 3, Number 130) ∷ (UnitCell 4, Number 24) ∷ []
     )
 
--- what a download makes of them
+-- the tables after this download
 abbrev pub sets_emptied_download_1 : Tables
 sets_emptied_download_1 =
     with_cells sets_emptied_tables (
     (PreemptCell 1 12, Octets ([])) ∷ (PreemptCell 7 12, Octets ([])) ∷ []
     )
 
--- what a download makes of them
+-- the tables after this download
 abbrev pub sets_emptied_download_2 : Tables
 sets_emptied_download_2 =
     with_cells sets_emptied_download_1 (
     (PreemptCell 1 13, Octets ([])) ∷ []
     )
 
--- what a download makes of them
+-- the tables after this download
 abbrev pub sets_emptied_download_3 : Tables
 sets_emptied_download_3 =
     with_cells sets_emptied_download_2 (
     []
     )
 
--- what a download makes of them
+-- the tables after this download
 abbrev pub sets_emptied_download_4 : Tables
 sets_emptied_download_4 =
     with_cells sets_emptied_download_3 (
     []
     )
 
--- what a download makes of them
+-- the tables after this download
 abbrev pub sets_emptied_download_5 : Tables
 sets_emptied_download_5 =
     with_cells sets_emptied_download_4 (
     []
     )
 
--- what a download makes of them
+-- the tables after this download
 abbrev pub sets_emptied_download_6 : Tables
 sets_emptied_download_6 =
     with_cells sets_emptied_download_5 (
     (PreemptCell 1 15, Octets ([])) ∷ (PreemptCell 7 15, Octets ([])) ∷ []
     )
 
--- what a download makes of them
+-- the tables after this download
 abbrev pub sets_emptied_download_7 : Tables
 sets_emptied_download_7 =
     with_cells sets_emptied_download_6 (
     []
     )
 
--- what happens to it, in order
+-- the events of the cabinet, in order
 abbrev pub sets_emptied_timeline : List Step
 sets_emptied_timeline =
     after 12 (Input (Veh 3 true)) ∷ after 40 (Input (Veh 6 true)) ∷ after 2 (Input (PreemptInput 7 true))
@@ -120,11 +120,11 @@ sets_emptied_timeline =
     ∷ after 0 (Install sets_emptied_download_7) ∷ after 6 (Input (Veh 5 false)) ∷ after 16 (Input (Veh 2 false))
     ∷ after 40 (Input (Veh 4 false)) ∷ after 58 (Input (Veh 3 true)) ∷ after 7 (Input (Veh 6 true)) ∷ []
 
--- its history: these steps, and the ticks after the last
+-- the history: these events, and the ticks after the last one
 abbrev pub sets_emptied_history : History
 sets_emptied_history = record { tables = sets_emptied_tables; command = 0; clock = 391802; events = ticks 1 (told_in_order sets_emptied_timeline []) }
 
--- what an independent program says of it, the newest line first
+-- the expected results, which an independent program computed; newest line first
 abbrev pub sets_emptied_told : HistoryTold
 sets_emptied_told = record {
   command = 0;

@@ -1,4 +1,4 @@
--- The history sets_emptied_again, and what is expected of it.
+-- The history sets_emptied_again: its tables, its events, and the expected results.
 use Rattle.std.specs.Prelude.{List, [], codes, ◌∷◌, true, false}
 use Rattle.sig_types.specs.declared.frame.Field.TheVariants.{Veh, Preempt as PreemptInput}
 use Rattle.sig_types.specs.declared.frame.Mode.TheVariants.{Seek, Coord, Entry, Track, Dwell}
@@ -11,7 +11,7 @@ use Rattle.sig_tables.specs.Standard.{std8}
 use Rattle.known_histories.specs.Timeline.{Step, ticks, told_in_order, after}
 use Rattle.known_histories.specs.HistoryTold.{HistoryTold, line}
 
--- the tables that the cabinet opens with
+-- the opening tables of the cabinet
 abbrev pub sets_emptied_again_tables : Tables
 sets_emptied_again_tables =
     with_cells std8 (
@@ -64,49 +64,49 @@ sets_emptied_again_tables =
     ∷ (UnitCell 3, Number 154) ∷ (UnitCell 4, Number 76) ∷ (UnitCell 6, Number 1) ∷ []
     )
 
--- what a download makes of them
+-- the tables after this download
 abbrev pub sets_emptied_again_download_1 : Tables
 sets_emptied_again_download_1 =
     with_cells sets_emptied_again_tables (
     (PreemptCell 6 15, Octets ([])) ∷ []
     )
 
--- what a download makes of them
+-- the tables after this download
 abbrev pub sets_emptied_again_download_2 : Tables
 sets_emptied_again_download_2 =
     with_cells sets_emptied_again_download_1 (
     (PreemptCell 2 15, Octets ([])) ∷ (PreemptCell 5 15, Octets ([])) ∷ []
     )
 
--- what a download makes of them
+-- the tables after this download
 abbrev pub sets_emptied_again_download_3 : Tables
 sets_emptied_again_download_3 =
     with_cells sets_emptied_again_download_2 (
     (PreemptCell 2 12, Octets ([])) ∷ (PreemptCell 5 12, Octets ([])) ∷ []
     )
 
--- what a download makes of them
+-- the tables after this download
 abbrev pub sets_emptied_again_download_4 : Tables
 sets_emptied_again_download_4 =
     with_cells sets_emptied_again_download_3 (
     []
     )
 
--- what a download makes of them
+-- the tables after this download
 abbrev pub sets_emptied_again_download_5 : Tables
 sets_emptied_again_download_5 =
     with_cells sets_emptied_again_download_4 (
     []
     )
 
--- what a download makes of them
+-- the tables after this download
 abbrev pub sets_emptied_again_download_6 : Tables
 sets_emptied_again_download_6 =
     with_cells sets_emptied_again_download_5 (
     []
     )
 
--- what happens to it, in order
+-- the events of the cabinet, in order
 abbrev pub sets_emptied_again_timeline : List Step
 sets_emptied_again_timeline =
     after 10 (Input (Veh 11 true)) ∷ after 21 (Input (Veh 15 false)) ∷ after 24 (Input (PreemptInput 2 false))
@@ -122,11 +122,11 @@ sets_emptied_again_timeline =
     ∷ after 27 (Input (Veh 12 false)) ∷ after 15 (Install sets_emptied_again_download_6)
     ∷ after 12 (Input (PreemptInput 1 false)) ∷ after 25 (Input (Veh 14 true)) ∷ []
 
--- its history: these steps, and the ticks after the last
+-- the history: these events, and the ticks after the last one
 abbrev pub sets_emptied_again_history : History
 sets_emptied_again_history = record { tables = sets_emptied_again_tables; command = 1; clock = 863655; events = ticks 13 (told_in_order sets_emptied_again_timeline []) }
 
--- what an independent program says of it, the newest line first
+-- the expected results, which an independent program computed; newest line first
 abbrev pub sets_emptied_again_told : HistoryTold
 sets_emptied_again_told = record {
   command = 1;

@@ -1,4 +1,4 @@
--- The history stands_and_skips, and what is expected of it.
+-- The history stands_and_skips: its tables, its events, and the expected results.
 use Rattle.std.specs.Prelude.{List, [], codes, ◌∷◌, true, false}
 use Rattle.sig_types.specs.declared.frame.Field.TheVariants.{Veh, Ped as Button}
 use Rattle.sig_types.specs.declared.frame.Mode.TheVariants.{Seek, Coord}
@@ -11,7 +11,7 @@ use Rattle.sig_tables.specs.Standard.{std8}
 use Rattle.known_histories.specs.Timeline.{Step, ticks, told_in_order, after}
 use Rattle.known_histories.specs.HistoryTold.{HistoryTold, line}
 
--- the tables that the cabinet opens with
+-- the opening tables of the cabinet
 abbrev pub stands_and_skips_tables : Tables
 stands_and_skips_tables =
     with_cells std8 (
@@ -50,7 +50,7 @@ stands_and_skips_tables =
     ∷ (UnitCell 1, Number 3) ∷ (UnitCell 2, Number 94) ∷ (UnitCell 3, Number 91) ∷ (UnitCell 4, Number 28) ∷ []
     )
 
--- what happens to it, in order
+-- the events of the cabinet, in order
 abbrev pub stands_and_skips_timeline : List Step
 stands_and_skips_timeline =
     after 53 (Input (Veh 1 false)) ∷ after 15 (Input (Veh 1 false)) ∷ after 25 (Input (Veh 6 false))
@@ -61,11 +61,11 @@ stands_and_skips_timeline =
     ∷ after 1 (SetClock 71730) ∷ after 31 (Input (Veh 7 true)) ∷ after 21 (Input (Veh 2 true))
     ∷ after 32 (Input (Veh 7 true)) ∷ after 37 (Input (Veh 5 false)) ∷ after 21 (Input (Veh 6 false)) ∷ []
 
--- its history: these steps, and the ticks after the last
+-- the history: these events, and the ticks after the last one
 abbrev pub stands_and_skips_history : History
 stands_and_skips_history = record { tables = stands_and_skips_tables; command = 44; clock = 863708; events = ticks 2 (told_in_order stands_and_skips_timeline []) }
 
--- what an independent program says of it, the newest line first
+-- the expected results, which an independent program computed; newest line first
 abbrev pub stands_and_skips_told : HistoryTold
 stands_and_skips_told = record {
   command = 44;

@@ -1,4 +1,4 @@
--- The history switched, and what is expected of it.
+-- The history switched: its tables, its events, and the expected results.
 use Rattle.std.specs.Prelude.{List, [], codes, ◌∷◌, true}
 use Rattle.sig_types.specs.declared.frame.Field.TheVariants.{Veh}
 use Rattle.sig_types.specs.declared.frame.Mode.TheVariants.{Seek, Coord}
@@ -11,49 +11,49 @@ use Rattle.sig_tables.specs.Standard.{std8}
 use Rattle.known_histories.specs.Timeline.{Step, ticks, told_in_order, after}
 use Rattle.known_histories.specs.HistoryTold.{HistoryTold, line}
 
--- the tables that the cabinet opens with
+-- the opening tables of the cabinet
 abbrev pub switched_tables : Tables
 switched_tables = std8
 
--- what a download makes of them
+-- the tables after this download
 abbrev pub switched_download_1 : Tables
 switched_download_1 =
     with_cells switched_tables (
     (UnitCell 7, Number 2) ∷ []
     )
 
--- what a download makes of them
+-- the tables after this download
 abbrev pub switched_download_2 : Tables
 switched_download_2 =
     with_cells switched_download_1 (
     (UnitCell 8, Number 2) ∷ []
     )
 
--- what a download makes of them
+-- the tables after this download
 abbrev pub switched_download_3 : Tables
 switched_download_3 =
     with_cells switched_download_2 (
     (UnitCell 7, Number 1) ∷ []
     )
 
--- what a download makes of them
+-- the tables after this download
 abbrev pub switched_download_4 : Tables
 switched_download_4 =
     with_cells switched_download_3 (
     (UnitCell 8, Number 1) ∷ []
     )
 
--- what happens to it, in order
+-- the events of the cabinet, in order
 abbrev pub switched_timeline : List Step
 switched_timeline =
     after 199 (Input (Veh 4 true)) ∷ after 420 (Install switched_download_1) ∷ after 80 (Install switched_download_2)
     ∷ after 100 (Install switched_download_3) ∷ after 50 (Install switched_download_4) ∷ []
 
--- its history: these steps, and the ticks after the last
+-- the history: these events, and the ticks after the last one
 abbrev pub switched_history : History
 switched_history = record { tables = switched_tables; command = 1; clock = 840; events = ticks 51 (told_in_order switched_timeline []) }
 
--- what an independent program says of it, the newest line first
+-- the expected results, which an independent program computed; newest line first
 abbrev pub switched_told : HistoryTold
 switched_told = record {
   command = 1;

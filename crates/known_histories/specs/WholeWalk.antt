@@ -1,4 +1,4 @@
--- The history whole_walk, and what is expected of it.
+-- The history whole_walk: its tables, its events, and the expected results.
 use Rattle.std.specs.Prelude.{List, [], codes, ◌∷◌}
 use Rattle.sig_types.specs.declared.frame.Field.TheVariants.{Ped as Button}
 use Rattle.sig_types.specs.declared.frame.Mode.TheVariants.{Coord}
@@ -8,20 +8,20 @@ use Rattle.sig_tables.specs.Standard.{std8}
 use Rattle.known_histories.specs.Timeline.{Step, ticks, told_in_order, after}
 use Rattle.known_histories.specs.HistoryTold.{HistoryTold, line}
 
--- the tables that the cabinet opens with
+-- the opening tables of the cabinet
 abbrev pub whole_walk_tables : Tables
 whole_walk_tables = std8
 
--- what happens to it, in order
+-- the events of the cabinet, in order
 abbrev pub whole_walk_timeline : List Step
 whole_walk_timeline =
     after 100 (Input (Button 2)) ∷ []
 
--- its history: these steps, and the ticks after the last
+-- the history: these events, and the ticks after the last one
 abbrev pub whole_walk_history : History
 whole_walk_history = record { tables = whole_walk_tables; command = 1; clock = 840; events = ticks 1100 (told_in_order whole_walk_timeline []) }
 
--- what an independent program says of it, the newest line first
+-- the expected results, which an independent program computed; newest line first
 abbrev pub whole_walk_told : HistoryTold
 whole_walk_told = record {
   command = 1;

@@ -1,4 +1,4 @@
--- That a line keeps the copies that are to come. Rounds have the newest first.
+-- The late copies that a line stores. Lists of rounds have the newest first.
 use Rattle.std.specs.Prelude.{ℕ, ◌≡◌, ◌≤◌, ◌+◌, List, length}
 use Rattle.scenario_data.specs.declared.scenario.Fault.{Fault}
 use Rattle.link_sim.specs.declared.Line.{Line}
@@ -9,8 +9,8 @@ use Rattle.link_sim.specs.LateLists.{listed_late}
 abbrev pub line_of : StreamLine → Line
 line_of w = w.line
 
--- in each later round, the expected ones are the late copies of the frames that were sent in these; what is kept of a
--- round after them, which was given up because memory ran out and is repeated, does not count
+-- the copies that the line stores for each later round are the late copies of the messages sent in these rounds.
+-- Copies of a later round, which was given up because memory ran out and is repeated, don't count
 abbrev pub Holds : StreamLine → List Fault → List (List (List ℕ)) → Type 0
 Holds w faults past =
     (rounds : ℕ) → 1 ≤ rounds

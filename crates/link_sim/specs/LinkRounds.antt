@@ -1,6 +1,6 @@
--- A round over the link: what reaches the cabinets, what arrives at the master, and what the link represents after it.
--- Rounds have the newest first. Each statement is of the cabinet at a place, counted from 0, by what was sent to it and
--- what it replied so far.
+-- A round over the link: what reaches the cabinets, what arrives at the master, and what the link represents after
+-- it. Each statement is about the cabinet at a place, counted from 0, by what was sent to it and what it replied so
+-- far. Lists of rounds have the newest first.
 use Rattle.std.specs.Prelude.{ℕ, ◌≡◌, ◌+◌, ◌<◌, List, ◌∷◌, length, get_or}
 use Rattle.sig_types.specs.declared.streams.Answers.{Answers}
 use Rattle.sig_types.specs.declared.streams.Sending.{Sending}
@@ -13,21 +13,21 @@ use Rattle.link_sim.specs.Reaching.{deliveries}
 use Rattle.link_sim.specs.LinkStands.{LinkStands, cabinet_count}
 use Rattle.link_sim.specs.StreamFrames.{Passed}
 
--- a round goes down to each cabinet: for whatever the link is there, it comes right after the rounds that were sent,
--- and this holds
+-- for each cabinet, if the link represents some rounds there and this round follows those that were sent, the
+-- statement holds
 abbrev pub EachSentTo : Link → ScenarioContent → ℕ → (ℕ → List (List (List ℕ)) → List (List (List ℕ)) → Passed → Type 0) → Type 0
 EachSentTo link s round Holds =
     (place : ℕ) (polls loads : List (List (List ℕ))) (replied : Passed) → place < cabinet_count link → LinkStands link s place polls loads replied
     → round ≡ length polls + 1 → Holds place polls loads replied
 
--- a round comes back from each cabinet: for whatever the link is there, it comes right after the rounds that were
--- replied, and this holds
+-- for each cabinet, if the link represents some rounds there and this round follows those that were replied, the
+-- statement holds
 abbrev pub EachHeardFrom : Link → ScenarioContent → ℕ → (ℕ → List (List (List ℕ)) → List (List (List ℕ)) → Passed → Type 0) → Type 0
 EachHeardFrom link s round Holds =
     (place : ℕ) (polls loads : List (List (List ℕ))) (replied : Passed) → place < cabinet_count link → LinkStands link s place polls loads replied
     → round ≡ length replied.polls + 1 → Holds place polls loads replied
 
--- all that reaches the cabinet is what the line and the scenario make of what is sent now and was sent before
+-- the streams that reach the cabinet are what the link and the scenario deliver of the messages sent now and before
 abbrev pub ReceivesItsFrames : ScenarioContent → List Sending → List Streams → ℕ → List (List (List ℕ)) → List (List (List ℕ)) → Passed → Type 0
 ReceivesItsFrames s sendings all place polls loads replied =
     (sending : Sending) (streams : Streams) → items_of (get_or all place streams)
@@ -39,7 +39,7 @@ StandsWithSent link s sendings place polls loads replied =
     (sending : Sending)
     → LinkStands link s place (sent_text (get_or sendings place sending).poll ∷ polls) (sent_text (get_or sendings place sending).load ∷ loads) replied
 
--- of the cabinet's replies arrives on each stream what the line back makes of those of now and of before
+-- what arrives on each stream is what the link carries of the replies of this round and of all rounds before
 abbrev pub RepliesArrive : ScenarioContent → List Answers → List Answers → ℕ → List (List (List ℕ)) → List (List (List ℕ)) → Passed → Type 0
 RepliesArrive s answers all place polls loads replied =
     (replies arrived : Answers) → ArriveFrom s (place + 1) replied (get_or answers place replies) (get_or all place arrived)

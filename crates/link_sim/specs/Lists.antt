@@ -1,4 +1,4 @@
--- That the link's lists are those of a scenario.
+-- The link's lists are those of a scenario.
 use Rattle.std.specs.Prelude.{ℕ, ◌≡◌, ◌++◌}
 use Rattle.sig_types.specs.declared.notes.Way.TheVariants.{Poll, Load, Prio}
 use Rattle.sig_types.specs.Items.{texts_of}
@@ -11,14 +11,15 @@ use Rattle.link_sim.specs.Order.{SameFaults}
 use Rattle.link_sim.specs.Reaching.{frames_of}
 use Rattle.link_sim.specs.Sorted.{dues_in}
 
--- each frame has its fault, and each round and cabinet its inputs, frames and priority requests
+-- the lists give each message its fault, and each round and cabinet its inputs, messages and priority requests, as
+-- the scenario does
 pub record AreOf (lists : Lists) (s : ScenarioContent) : Type 0 where
   pub faults : SameFaults (faults_in lists.faults) s.faults
   pub inputs : HasItems (λ i. i.round) (λ i. i.cabinet) s.inputs (dues_in lists.inputs)
   pub frames : HasItems (λ f. f.round) (λ f. f.cabinet) s.frames (dues_in lists.frames)
   pub requests : HasItems (λ p. p.round) (λ p. p.cabinet) s.priority (dues_in lists.requests)
 
--- what has arrived at a cabinet in a round, and after it the scenario's own frames
+-- what has arrived at a cabinet in a round, followed by the scenario's own messages
 pub record HaveOwn (s : ScenarioContent) (round cab : ℕ) (arrived all : Arrivals) : Type 0 where
   -- on the stream of polls
   pub polls : texts_of all.polls.items ≡ texts_of arrived.polls.items ++ frames_of s.frames round cab Poll

@@ -10,12 +10,12 @@ use Rattle.sig_types.specs.Passes.{pass_of}
 use Rattle.link_sim.specs.declared.Line.{Line}
 use Rattle.link_sim.specs.Faults.{fault_of}
 
--- what goes down is before what comes up
+-- the order of directions: to the cabinet before from the cabinet
 abbrev pub rank_of : Direction → ℕ
 rank_of Down = 0
 rank_of Up = 1
 
--- one fault before another, by the frames that they meet
+-- the order of faults, by their messages
 abbrev pub by_place : Fault → Fault → Ordering
 by_place f g =
     ordering_then (ordering_then (ordering_then (ordering_then
@@ -25,11 +25,11 @@ by_place f g =
     (nat_cmp (rank_of f.way) (rank_of g.way)))
     (nat_cmp f.index g.index)
 
--- a fault that meets the frame at this place of what goes over the line in a round
+-- a fault for the message at this place of the line in this round
 abbrev pub fault_at : Line → ℕ → ℕ → Fault
 fault_at line round place =
     record { round = round; cabinet = line.cab; stream = line.way; way = line.direction; index = place; kind = Lose; by = 0; octet = 0 }
 
--- each frame has the same fault by the one list and by the other
+-- each message has the same fault in both lists
 abbrev pub SameFaults : List Fault → List Fault → Type 0
 SameFaults faults others = (line : Line) → (round place : ℕ) → fault_of faults line round place ≡ fault_of others line round place

@@ -1,4 +1,5 @@
--- The three lines of a cabinet in one direction, and that they hold the copies that are to come. Rounds have the newest first.
+-- The three lines of a cabinet in one direction, and the late copies that they store. Lists of rounds have the newest
+-- first.
 use Rattle.std.specs.Prelude.{ℕ, ◌≡◌, List, [], ◌∷◌, length}
 use Rattle.sig_types.specs.declared.notes.Way.{Way}
 use Rattle.sig_types.specs.declared.notes.Way.TheVariants.{Poll, Load, Prio}
@@ -14,18 +15,19 @@ pub record Passed : Type 0 where
   pub loads : List (List (List ℕ))
   pub prios : List (List (List ℕ))
 
--- nothing so far
+-- nothing was sent so far
 abbrev pub nothing_passed : Passed
 nothing_passed = record { polls = []; loads = []; prios = [] }
 
--- and with one round more
+-- what was sent over the three streams, with one more round
 abbrev pub with_round : List (List ℕ) → List (List ℕ) → List (List ℕ) → Passed → Passed
 with_round polls loads prios past = record { polls = polls ∷ past.polls; loads = loads ∷ past.loads; prios = prios ∷ past.prios }
 
+-- the line of a cabinet for this stream and direction
 abbrev pub line_at : ℕ → Way → Direction → Line
 line_at cab way direction = record { cab = cab; way = way; direction = direction }
 
--- the lines are those of a cabinet in a direction, and each holds what is late of its stream
+-- these are the lines of a cabinet in one direction, and each stores the late copies of its stream
 pub record AreLines (lines : Lines) (faults : List Fault) (cab : ℕ) (direction : Direction) (past : Passed) : Type 0 where
   pub poll_line : line_of lines.polls ≡ line_at cab Poll direction
   pub load_line : line_of lines.loads ≡ line_at cab Load direction

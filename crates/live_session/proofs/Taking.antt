@@ -19,7 +19,7 @@ use Rattle.run_definition.specs.CabinetState.{CabinetState}
 use Rattle.run_definition.specs.Lines.{acts_lines}
 use Rattle.round_run.specs.CabinetStates.{HasCome, AreTicks, HaveNoTicks}
 use Rattle.round_run.specs.Lines.{new_frame_lines, new_reply_lines}
-use Rattle.session_laws.specs.Session.{Step, Ticks, Brings, step_acts, session_acts, history_by}
+use Rattle.run_definition.specs.Session.{Step, Ticks, Brings, step_acts, session_acts, history_by}
 use Rattle.live_session.specs.Standing.{HasComeBy, IsTicked, HasTaken}
 use Rattle.live_session.proofs.Steps.{acts-more, brings-here, brings-elsewhere, ticks-more, ticks-same, items-more, items-same, are-ticks, no-tick}
 

@@ -10,8 +10,8 @@ ghost use Rattle.cabinet_history.specs.Journals.{runs_of};
 ghost use Rattle.cab_book.specs.Books.{journal_of};
 ghost use Rattle.cab_book.specs.Happenings.{replies_in};
 ghost use Rattle.run_definition.specs.Lines.{shown_line, frame_lines, reply_lines};
-ghost use Rattle.session_laws.specs.Dialogue.{dot, answer_text};
-ghost use Rattle.session_laws.specs.Answers.{NotTaken};
+ghost use Rattle.run_definition.specs.SessionDialogue.{dot, answer_text};
+ghost use Rattle.run_definition.specs.SessionAnswers.{NotTaken};
 
 use crate::appender::Appender;
 use cab_book::{Answered, Book};

@@ -1,4 +1,4 @@
--- Moments that continue with the last one: each shows what it showed, and of its ticks the same was seen.
+-- Moments that continue the last one: each shows the same, and its tick saw the same.
 use Rattle.std.specs.Prelude.{ℕ, ◌≡◌, ◌<◌, ◌≤◌, ◌+◌, ◌&&◌, not, min, nat_lt, if◌then◌else◌, true, false, Bool, List, [], ◌∷◌, ◌++◌}
 use Rattle.sig_types.specs.declared.frame.Mode.TheVariants.{Coord}
 use Rattle.sig_types.specs.declared.frame.Frame.{Frame}
@@ -13,7 +13,7 @@ use Rattle.look_back.specs.declared.frame_runs.FrameRuns.{FrameRuns}
 use Rattle.look_back.specs.Look.{Tells}
 use Rattle.look_back.specs.Spread.{frame_run}
 
--- a frame shows what another shows: colours, signals, what is on, the mode and the version
+-- the two frames show the same colours, signals, phases on, mode and version
 pub record ShowsAgain (f g : Frame) : Type 0 where
   pub veh : f.veh ≡ g.veh
   pub ped : f.ped ≡ g.ped
@@ -21,9 +21,9 @@ pub record ShowsAgain (f g : Frame) : Type 0 where
   pub mode : f.mode ≡ g.mode
   pub version : f.version ≡ g.version
 
--- the moment continues these: it shows what the last frame shows, coordinated in a pattern, with a counter that is one
--- more; of the phases that were Green before it those were not active that are not of the first set, and to those a
--- conflicting phase had demand that are of the second; no preempt input was on
+-- the moment continues these: its frame shows the same as the last one, in Coord with a counter that is greater by one.
+-- Of the phases that were Green before it, those outside `active` were quiet, and those in `pressed` were opposed. No
+-- preempt input was on
 pub record FrameGoesOn (active pressed : PhaseSet) (m : Moment) (past : List Moment) : Type 0 where
   pub shows : ShowsAgain m.frame (last_frame past)
   pub counter : (n : ℕ) → m.frame.mode ≡ Coord n → m.frame.counter ≡ (last_frame past).counter + 1
@@ -31,12 +31,12 @@ pub record FrameGoesOn (active pressed : PhaseSet) (m : Moment) (past : List Mom
   pub opposed : (p : ℕ) → is_phase p ≡ true → is_in m.opposed p ≡ (is_green (last_frame past) p && has pressed p)
   pub preempts : (i : ℕ) → 0 < i → i ≤ 8 → is_in m.preempts i ≡ false
 
--- each of N moments more continues those before it
+-- each of these later moments continues those before it
 abbrev pub AllGoOn : PhaseSet → PhaseSet → List Moment → List Moment → Type 0
 AllGoOn active pressed [] past = Unit {0}
 AllGoOn active pressed (m ∷ ms) past = FrameGoesOn active pressed m (ms ++ past) × AllGoOn active pressed ms past
 
--- of each of the moments this is what is kept
+-- the sample is what is stored of each of these moments
 abbrev pub AllTell : Sample → List Moment → Type 0
 AllTell g [] = Unit {0}
 AllTell g (m ∷ ms) = Tells g m × AllTell g ms
@@ -46,10 +46,10 @@ abbrev pub AllPass : (Moment → Bool) → List Moment → Type 0
 AllPass test [] = Unit {0}
 AllPass test (m ∷ ms) = (test m ≡ true) × AllPass test ms
 
--- N more than this number of frames; 4,096 means that many or more
+-- this number of frames plus `more`; 4,096 means that many or more
 abbrev pub more_by : ℕ → ℕ → ℕ
 more_by ticks more = if nat_lt ticks 4096 then min (ticks + more) 4096 else ticks
 
--- the runs with N frames more in the newest one
+-- the runs with n more frames in the newest run
 abbrev pub lengthened : ℕ → FrameRuns → FrameRuns
 lengthened n s = record s { newest = frame_run s.newest.sample (more_by s.newest.ticks n) }

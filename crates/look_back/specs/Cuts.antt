@@ -1,25 +1,25 @@
--- Walks and pedestrian clearances that are cut short, or last in full.
+-- Walks and pedestrian clearances, in full or shortened.
 use Rattle.std.specs.Prelude.{ℕ, ◌==◌, max, min, nat_le, Bool, if◌then◌else◌, Option, Some, None}
 use Rattle.sig_types.specs.declared.frame.Ped.{Ped}
 use Rattle.sig_types.specs.declared.frame.Ped.TheVariants.{Flash, Dont}
 use Rattle.sig_tables.specs.Lesser.{Lesser, InFull, AtMost, lesser_clear}
 use Rattle.look_back.specs.declared.cuts.Cut.{Cut}
 
--- the times in full, or at most those of the cut
+-- the limits of a cut; no limits without a cut
 abbrev pub lesser_of : Option Cut → Lesser
 lesser_of None = InFull
 lesser_of (Some cut) = AtMost cut.walk cut.clear
 
--- a walk of this time is over after N frames; one that is cut short lasts a tick at least
+-- a walk of this time is over after this number of frames; a shortened one lasts at least one tick
 abbrev pub is_walk_over : Lesser → ℕ → ℕ → Bool
 is_walk_over InFull time frames = frames == time
 is_walk_over (AtMost walk clear) time frames = nat_le (max 1 (min time walk)) frames
 
--- a pedestrian clearance of this time is over after N frames
+-- a pedestrian clearance of this time is over after this number of frames
 abbrev pub is_clearance_over : Lesser → ℕ → ℕ → Bool
 is_clearance_over InFull time frames = frames == time
 is_clearance_over (AtMost walk clear) time frames = nat_le (min time clear) frames
 
--- what follows Walk where pedestrian clearance has this time
+-- the signal that follows Walk, if pedestrian clearance has this time
 abbrev pub after_walk : Lesser → ℕ → Ped
 after_walk lesser time = if lesser_clear lesser time == 0 then Dont else Flash

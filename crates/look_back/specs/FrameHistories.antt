@@ -1,4 +1,4 @@
--- The frame history holds all that was seen of a cabinet.
+-- A frame history represents all that was seen of a cabinet.
 use Rattle.std.specs.Prelude.{List}
 use Rattle.sig_tables.specs.Past.{Moment}
 use Rattle.look_back.specs.declared.frame_history.FrameHistory.{FrameHistory}
@@ -7,7 +7,7 @@ use Rattle.look_back.specs.Latching.{LatchedStands}
 use Rattle.look_back.specs.LongCounts.{LongCountsStands}
 use Rattle.look_back.specs.Counts.{CountingStands}
 
--- the window, the latched times, the numbers that reach further and the counters are those of these moments
+-- the window, the latched times, the long counts and the counters represent these moments
 pub record LooksOver (l : FrameHistory) (past : List Moment) : Type 0 where
   pub window : WindowStands l.window past
   pub latched : LatchedStands l.latched past

@@ -1,16 +1,16 @@
--- What the runs keep of all moments that were added.
+-- What the runs store of all moments that were added.
 use Rattle.std.specs.Prelude.{◌≡◌, ◌≤◌, ◌⊎◌, List, [], ◌∷◌}
 use Rattle.sig_tables.specs.Past.{Moment}
 use Rattle.look_back.specs.declared.sample.Sample.{Sample}
 use Rattle.look_back.specs.declared.frame_runs.FrameRuns.{FrameRuns}
 use Rattle.look_back.specs.Spread.{spread, EachLasts, TellLast}
 
--- what is kept of the last frame
+-- the sample of the last frame
 abbrev pub newest_of : FrameRuns → Sample
 newest_of s = s.newest.sample
 
--- what is kept describes the last 4,096 of the moments; there is room for as many runs, each with a frame except where
--- none was added
+-- the runs describe the last 4,096 moments. There is room for 4,096 runs, and each run has a frame unless no moment was
+-- added
 pub record FrameRunsKeep (s : FrameRuns) (past : List Moment) : Type 0 where
   pub tells : TellLast 4096 (spread (s.newest ∷ s.older.items)) past
   pub newest : (1 ≤ s.newest.ticks) ⊎ (s.older.items ≡ [])

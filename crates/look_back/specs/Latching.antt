@@ -1,12 +1,12 @@
--- The times that are kept are those of the present colours and signals.
+-- The stored times are those of the present colours and pedestrian signals.
 use Rattle.std.specs.Prelude.{ℕ, ◌≡◌, ◌<◌, ◌≤◌, ◌-◌, List, get_or}
 use Rattle.sig_tables.specs.Past.{Moment}
 use Rattle.sig_tables.specs.Looking.{last_frame}
 use Rattle.look_back.specs.declared.latched.Latched.{Latched}
 use Rattle.look_back.specs.Latched.{ColourLatched, SignalLatched}
 
--- after these moments the colours and signals are those of the last frame, and of each phase the times are those that were in
--- force when its colour and its signal began
+-- the latched times represent these moments: the colours and signals are those of the last frame, and the times of each
+-- phase are those in force when its colour and its signal began
 pub record LatchedStands (l : Latched) (past : List Moment) : Type 0 where
   pub veh : l.veh ≡ (last_frame past).veh
   pub ped : l.ped ≡ (last_frame past).ped

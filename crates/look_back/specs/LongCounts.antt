@@ -1,4 +1,4 @@
--- The numbers are those that looking back over the moments gives.
+-- The long counts are what looking back over the moments gives.
 use Rattle.std.specs.Prelude.{ℕ, ◌≡◌, ◌<◌, ◌≤◌, ◌-◌, ◌==◌, List, get_or}
 use Rattle.sig_types.specs.Phases.{is_in}
 use Rattle.sig_tables.specs.Past.{Moment}
@@ -7,8 +7,8 @@ use Rattle.sig_tables.specs.Modes.{stage_of}
 use Rattle.look_back.specs.declared.long_counts.LongCounts.{LongCounts}
 use Rattle.look_back.specs.Rows.{RowStands, no_row}
 
--- of these moments: the preempt that the last frame serves, and for how many frames in a row; for how many ticks in a row each
--- preempt input was on; and the phases that were last on
+-- the preempt that the last frame serves, and for how many frames in a row; for how many ticks in a row each preempt
+-- input was on; the phases that were on last
 pub record LongCountsStands (f : LongCounts) (past : List Moment) : Type 0 where
   pub stage : f.stage ≡ stage_of (last_frame past).mode
   pub stages : RowStands f.stages (λ m. stage_of m.frame.mode == f.stage) past

@@ -1,4 +1,4 @@
--- What may have been so in each of the last frames: of the moments, and of what is kept of them.
+-- Facts about a frame for which a controller looks back, by the moment of the frame and by its stored sample.
 use Rattle.std.specs.Prelude.{ℕ, ◌≡◌, ◌<◌, ◌≤◌, ◌==◌, ◌&&◌, ◌||◌, nat_lt, Bool, length}
 use Rattle.sig_types.specs.declared.frame.Colour.{Colour}
 use Rattle.sig_types.specs.declared.frame.Ped.{Ped}
@@ -18,7 +18,7 @@ use Rattle.look_back.specs.declared.sample.Look.{Look}
 use Rattle.look_back.specs.declared.sample.Look.TheVariants.{Shows, Signals, Quiet, Opposed, IsIn, Serves, Dwells}
 use Rattle.look_back.specs.Shown.{in_colour, in_signal}
 
--- it is so at the moment
+-- the fact is true of the moment
 abbrev pub is_so : Look → Moment → Bool
 is_so (Shows p colour) m = shows p colour m
 is_so (Signals p signal) m = signals p signal m
@@ -28,11 +28,11 @@ is_so (IsIn mode) m = same_mode m.frame.mode mode
 is_so (Serves i) m = stage_of m.frame.mode == i
 is_so (Dwells i goal) m = same_mode m.frame.mode (Dwell i) && has_reached m.frame (listed goal)
 
--- an octet of a list is a phase of the set; past 16 it asks for nothing
+-- the entry of a list is a phase of the set; entries above 16 are ignored
 abbrev pub is_due : PhaseSet → ℕ → Bool
 is_due s octet = nat_lt 16 octet || has s octet
 
--- what is kept of a frame says that it is so
+-- the fact is true of the stored sample of a frame
 abbrev pub is_told : Look → Sample → Bool
 is_told (Shows p colour) g = has (in_colour g.shown colour) p
 is_told (Signals p signal) g = has (in_signal g.shown signal) p
@@ -46,7 +46,7 @@ is_told (Dwells i goal) g =
     && (g.first == 0 || is_in (listed goal) g.first)
     && (g.second == 0 || is_in (listed goal) g.second))
 
--- a phase that it asks of is one of the sixteen
+-- the phase of the fact, if it has one, is 1 to 16
 abbrev pub LooksAtPhase : Look → Type 0
 LooksAtPhase (Shows p colour) = (0 < p) × (p ≤ 16)
 LooksAtPhase (Signals p signal) = (0 < p) × (p ≤ 16)
@@ -54,7 +54,7 @@ LooksAtPhase (Quiet p) = (0 < p) × (p ≤ 16)
 LooksAtPhase (Opposed p) = (0 < p) × (p ≤ 16)
 LooksAtPhase _ = Unit {0}
 
--- what is kept of a frame is what the moment that gave it shows and saw
+-- the sample holds what the moment of its frame shows and saw
 pub record Tells (g : Sample) (m : Moment) : Type 0 where
   pub wide : length m.frame.veh ≡ 16
   pub colours : (colour : Colour) → Has (in_colour g.shown colour) (λ p. shows p colour m)
@@ -65,7 +65,7 @@ pub record Tells (g : Sample) (m : Moment) : Type 0 where
   pub quiet : Has g.quiet (is_in m.quiet)
   pub opposed : Has g.opposed (is_in m.opposed)
 
--- beside what two frames show of the phases the same is kept of them
+-- two samples agree in everything except the colours and signals of the phases
 pub record IsAsSeen (a b : Sample) : Type 0 where
   pub first : a.first ≡ b.first
   pub second : a.second ≡ b.second

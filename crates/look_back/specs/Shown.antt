@@ -1,4 +1,4 @@
--- The colours and signals of a frame as sets of phases.
+-- The colours and pedestrian signals of a frame as sets of phases.
 use Rattle.std.specs.Prelude.{ℕ, ◌≡◌, ◌-◌, List, length, get_or}
 use Rattle.sig_types.specs.declared.frame.Colour.{Colour}
 use Rattle.sig_types.specs.declared.frame.Colour.TheVariants.{Green, Yellow, Clear, Red}
@@ -9,20 +9,20 @@ use Rattle.sig_types.specs.Colour.{same_colour, same_signal, colour_in}
 use Rattle.sig_tables.specs.Layout.{Has}
 use Rattle.look_back.specs.declared.shown.Shown.{Shown}
 
--- the set of the phases that show a colour
+-- the phases that show a colour
 abbrev pub in_colour : Shown → Colour → PhaseSet
 in_colour s Green = s.green
 in_colour s Yellow = s.yellow
 in_colour s Clear = s.clear
 in_colour s Red = s.red
 
--- the set of the phases that show a signal
+-- the phases that show a pedestrian signal
 abbrev pub in_signal : Shown → Ped → PhaseSet
 in_signal s Walk = s.walk
 in_signal s Flash = s.flash
 in_signal s Dont = s.dont
 
--- the signal of phase p among sixteen
+-- the entry of phase p in a list of signals; Walk if the list is too short
 abbrev pub signal_in : List Ped → ℕ → Ped
 signal_in ped p = get_or ped (p - 1) Walk
 

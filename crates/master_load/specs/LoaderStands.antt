@@ -1,4 +1,4 @@
--- That a loader represents what has happened to it.
+-- What a loader represents: the events so far.
 use Rattle.std.specs.Prelude.{ℕ, ◌≡◌, if◌then◌else◌, List, drop, Option, Some, None}
 use Rattle.std.specs.Option.{ForSome}
 use Rattle.std.specs.List.{slice_get}
@@ -11,13 +11,13 @@ use Rattle.master_load.specs.declared.loader.Outcome.TheVariants.{Open, Good, Re
 use Rattle.master_load.specs.Downloads.{loads_of, load_at}
 use Rattle.master_load.specs.Loading.{LoadEvent, last_frame, answer, begun_by}
 
--- what an answer makes of a frame
+-- the state of the last message, by its answer
 abbrev pub outcome_of : Option Message → Outcome
 outcome_of None = Open
 outcome_of (Some m) = if is_good m then Good else Refused
 
--- the loader keeps what looking back gives; `at` is the place of the load that was begun last among all loads of the scenario, and
--- from `next` on the cabinet's loads are those that were not begun
+-- the loader agrees with the events so far. `at` is the place, among all loads of the scenario, of the load that
+-- began last; the cabinet's loads that haven't begun are from `next` on
 pub record LoaderStands (l : Loader) (cab : ℕ) (loads : List LoadContent) (past : List LoadEvent) : Type 0 where
   pub sent : l.sent ≡ last_frame past
   pub outcome : l.outcome ≡ outcome_of (answer past)

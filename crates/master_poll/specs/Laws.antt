@@ -1,5 +1,5 @@
--- The open command in other words: the last command of all, unless it was answered or given up since. Lists of turns have the newest
--- first.
+-- Another way to define the open command: it is the last command of all, unless it has been answered or given up
+-- since. Lists of turns have the newest first.
 use Rattle.std.specs.Prelude.{ℕ, ◌≡◌, nat_le, ◌&&◌, ◌||◌, not, Bool, false, if◌then◌else◌, List, [], ◌∷◌, Option, Some, None}
 use Rattle.std.specs.List.{list_any}
 use Rattle.scenario_data.specs.Content.{ScenarioContent, CabinetContent}
@@ -14,22 +14,22 @@ abbrev pub last_command : List Turn → Option Command
 last_command [] = None
 last_command (t ∷ past) = or_else t.command (last_command past)
 
--- a Response with this id arrived since the last command was sent
+-- a Response with this id has arrived since the last command was sent
 abbrev pub is_answered : List Turn → Command → Bool
 is_answered [] c = false
 is_answered (t ∷ past) c = not (is_some t.command) && (list_any (answers c.id) t.polls || is_answered past c)
 
--- the last command was sent for the last time before the last turn
+-- nothing was sent in the last turn, and the last command has been sent `retries` times or more
 abbrev pub is_given_up : ℕ → List Turn → Command → Bool
 is_given_up retries [] c = false
 is_given_up retries (t ∷ past) c = not (is_some t.command) && nat_le retries c.tries
 
--- the last command, where it was neither answered nor given up
+-- the last command, if it was neither answered nor given up
 abbrev pub still_open : ℕ → List Turn → Option Command → Option Command
 still_open retries past None = None
 still_open retries past (Some c) = if is_answered past c || is_given_up retries past c then None else Some c
 
--- the open command is the last one of all that was neither answered nor given up
+-- the open command is the last command of all, if this was neither answered nor given up
 abbrev pub OpenIsLast : ScenarioContent → ℕ → CabinetContent → List Arrived → Type 0
 OpenIsLast s cab c arrived =
     open_command (turns s cab c arrived) ≡ still_open s.master.retries (turns s cab c arrived) (last_command (turns s cab c arrived))

@@ -164,6 +164,7 @@ impl Master {
 
     /// Takes the next round, where this has arrived from each cabinet, in the cabinets' order; rounds come one after
     /// another from 1. If memory runs out the master is as before, and the same round may be repeated.
+    /// Here only tests call it; it is part of the public interface.
     pub fn step(
         &mut self,
         alloc: Global,

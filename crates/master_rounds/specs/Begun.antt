@@ -1,4 +1,4 @@
--- What a round begins with, by what the cabinets have answered so far: the master's notes, and the streams of each cabinet.
+-- How a round begins, by what the cabinets have answered so far: the master's notes, and the streams of each cabinet.
 use Rattle.std.specs.Prelude.{ℕ, ◌+◌, ◌≡◌, ◌<◌, List, [], ◌∷◌, ◌++◌, length, get_or, Some}
 use Rattle.std.specs.List.{slice_get}
 use Rattle.sig_types.specs.declared.notes.MasterNote.{MasterNote}
@@ -10,12 +10,13 @@ use Rattle.master_rounds.specs.Rounds.{noted, streams_of}
 use Rattle.master_rounds.specs.declared.master_rounds.Begun.{Begun}
 use Rattle.master_rounds.specs.Bounds.{AreInputs, IsShort}
 
--- what is noted of the cabinets in their order, of which the first has this number
+-- what is noted about these cabinets in order; the first has this number
 abbrev pub noted_from : ScenarioContent → (ℕ → List (List Reply)) → ℕ → List CabinetContent → List MasterNote
 noted_from s answered first [] = []
 noted_from s answered first (c ∷ cabinets) = noted s first c (answered first) ++ noted_from s answered (first + 1) cabinets
 
--- the notes of all cabinets, and to each the streams of the round to come, which are short, and whose inputs are the scenario's
+-- these are the notes about all cabinets and the streams of the next round. The streams are short, and their inputs
+-- are those of the scenario
 pub record IsBegun (b : Begun) (s : ScenarioContent) (answered : ℕ → List (List Reply)) : Type 0 where
   pub notes : b.notes.items ≡ noted_from s answered 1 s.cabinets
   pub count : length b.streams.items ≡ length s.cabinets

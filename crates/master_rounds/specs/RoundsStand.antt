@@ -1,5 +1,5 @@
--- That master and line represent what the cabinets have answered so far, by their numbers, which are counted from 1.
--- Lists of rounds have the newest first.
+-- What the master and the link represent: what the cabinets have answered so far. Cabinets are numbered from 1. Lists
+-- of rounds have the newest first.
 use Rattle.std.specs.Prelude.{ℕ, ◌+◌, ◌≡◌, ◌<◌, List, length, Some}
 use Rattle.std.specs.List.{slice_get}
 use Rattle.sig_types.specs.Replies.{Reply}
@@ -10,15 +10,16 @@ use Rattle.master_rounds.specs.Rounds.{arrivals, polls_sent, loads_sent}
 use Rattle.master_rounds.specs.declared.master_rounds.MasterRounds.{MasterRounds}
 use Rattle.master_rounds.specs.Answered.{arrivals_before, arrived_since, polls_before, loads_before, replied_before}
 
--- the number of cabinets, and of the rounds that have begun
+-- the number of cabinets
 abbrev pub cabinet_count : MasterRounds → ℕ
 cabinet_count d = length d.arrived.items
 
+-- the number of rounds that have begun
 abbrev pub rounds_begun : MasterRounds → ℕ
 rounds_begun d = round_count d.master
 
--- between two rounds, after that many: the master represents what had arrived at its turns, the link for what was sent
--- and replied, and what has arrived since is kept
+-- between two rounds, after this many: the master represents what had arrived at its turns, the link represents what
+-- was sent and replied, and what has arrived since is stored
 pub record MasterRoundsStands (d : MasterRounds) (s : ScenarioContent) (done : ℕ) (answered : ℕ → List (List Reply)) : Type 0 where
   pub cabinets : cabinet_count d ≡ length s.cabinets
   pub rounds : rounds_begun d ≡ done
@@ -28,7 +29,7 @@ pub record MasterRoundsStands (d : MasterRounds) (s : ScenarioContent) (done : �
       → LinkStands d.link s place (polls_before s (place + 1) c (answered (place + 1))) (loads_before s (place + 1) c (answered (place + 1))) (replied_before (answered (place + 1)))
   pub arrived : (place : ℕ) → place < length s.cabinets → arrived_in (slice_get d.arrived.items place) ≡ arrived_since s (place + 1) (answered (place + 1))
 
--- in the middle of a round: what the master sends in it was sent, and the cabinets have not answered yet
+-- in a round: the master has sent its messages, and the cabinets haven't answered yet
 pub record HasBegun (d : MasterRounds) (s : ScenarioContent) (round : ℕ) (answered : ℕ → List (List Reply)) : Type 0 where
   pub cabinets : cabinet_count d ≡ length s.cabinets
   pub rounds : rounds_begun d ≡ round

@@ -1,9 +1,10 @@
--- What master and line ask of a scenario; each that was read without a fault has it.
+-- What the master and the link require of a scenario. Each scenario that was read without a fault meets these
+-- conditions.
 use Rattle.std.specs.Prelude.{◌≤◌, length}
 use Rattle.scenario_data.specs.Content.{ScenarioContent}
 use Rattle.master_poll.specs.Masters.{IsRun}
 
--- it has at most 64 cabinets, its loads are of cells that are cells, and its lists and its rounds are short
+-- the scenario has at most 64 cabinets, the cells of its loads exist, and its lists and rounds are short
 pub record CanBeServed (s : ScenarioContent) : Type 0 where
   pub run : IsRun s
   pub few_ticks : s.ticks ≤ 600

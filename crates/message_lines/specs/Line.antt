@@ -7,7 +7,7 @@ use Rattle.snmp_msg.specs.Messages.{IsMessage}
 use Rattle.snmp_msg.specs.Shortest.{shortest}
 use Rattle.message_lines.specs.Words.{joined, pdu_word, binding_word}
 
--- the digits write a text of the message
+-- the digits are those of a text of this message
 abbrev pub Write : List ℕ → Message → Type 0
 Write digits m = (octets : List ℕ) × (decode_of digits ≡ Ok octets) × IsMessage octets m
 
@@ -21,6 +21,6 @@ field_words m =
 unfoldable pub message_line : Message → List ℕ
 message_line m = joined 32 (encode_lower (shortest m) ∷ field_words m)
 
--- the line of digits that write no message
+-- the line for digits that aren't a message
 abbrev pub none_line : List ℕ
 none_line = codes "none"

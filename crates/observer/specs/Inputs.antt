@@ -1,4 +1,4 @@
--- The preempts whose input is on, with one event more.
+-- The preempts whose input is on, after one more event.
 use Rattle.std.proofs.Common.{◌≡◌, ◌<◌, ◌≤◌, ◌==◌, ℕ, Bool, false, if◌then◌else◌, List, [], refl, sym, ◌∙◌, ap, arith}
 use Rattle.sig_types.specs.declared.frame.Field.TheVariants.{Preempt as PreemptInput}
 use Rattle.sig_types.specs.declared.phase_set.PhaseSet.{PhaseSet}
@@ -25,12 +25,12 @@ pub on-at : (past : Past) (i : ℕ) → 0 < i → i ≤ 8 → is_in (preempts_se
 unfolding preempts_seen
 on-at past i above within = in-preempts (λ k. preempt_on (is_in (moment_seen past).preempts k) past.heard k) i above within
 
--- what leaves each input as it was
+-- an event that changes no preempt input keeps the set correct
 pub kept-on : (s : PhaseSet) (past next : Past) → ((i : ℕ) → on_next past i ≡ on_next next i) → AreOn s past → AreOn s next
 kept-on s past next same old i above within =
     old i above within ∙ on-at past i above within ∙ same i ∙ sym (on-at next i above within)
 
--- the input of preempt j
+-- an input of preempt j changes only this preempt in the set
 pub turned-on : (s new : PhaseSet) (past : Past) (j : ℕ) (on : Bool) → AreOn s past
     → ((i : ℕ) → 0 < i → i ≤ 8 → has new i ≡ (if j == i then on else has s i)) → AreOn new (with_event (Input (PreemptInput j on)) past)
 turned-on s new past j on old is i above within =
@@ -38,12 +38,12 @@ turned-on s new past j on old is i above within =
     ∙ ap (λ (b : Bool). if j == i then on else b) (old i above within ∙ on-at past i above within)
     ∙ sym (on-at (with_event (Input (PreemptInput j on)) past) i above within)
 
--- a tick leaves them on at its moment
+-- a tick keeps the set of the inputs that are on at its moment
 pub seen-on : (s : PhaseSet) (past : Past) (m : Moment) → m.preempts ≡ preempts_seen past → AreOn s past → AreOn s (with_moment past m)
 seen-on s past m e old i above within =
     old i above within ∙ ap (λ (xs : List ℕ). is_in xs i) (sym e) ∙ sym (on-at (with_moment past m) i above within)
 
--- no input is on where the set has none
+-- if the set is empty, no preempt input is on
 pub none-on : (s : PhaseSet) (past : Past) → AreOn s past → phases_of s ≡ [] → preempts_seen past ≡ []
 unfolding preempts_seen
 none-on s past on empty =

@@ -1,4 +1,4 @@
--- The memory looks back over everything that was seen.
+-- A memory that looks back over everything that was seen.
 use Rattle.std.specs.Prelude.{ℕ, ◌≡◌, ◌<◌, ◌≤◌, ◌+◌, length, true}
 use Rattle.sig_types.specs.Phases.{is_in}
 use Rattle.sig_types.specs.PhaseSet.{has}
@@ -16,8 +16,8 @@ use Rattle.observer.specs.declared.LookingBack.{LookingBack}
 abbrev pub frames : LookingBack → ℕ
 frames o = o.frames
 
--- the inputs are those of the past, and the memory has everything that was seen, with the moment before any tick. While
--- coordinated in a pattern, the counter of the last frame is within the cycle
+-- the memory represents the past: it has the preempt inputs that are on, and everything that was seen since the moment
+-- before any tick. In Coord the counter of the last frame is within the cycle
 pub record SeesBack (o : LookingBack) (past : Past) : Type 0 where
   pub inputs : (i : ℕ) → 0 < i → i ≤ 8 → has o.inputs i ≡ is_in (preempts_seen past) i
   pub frame_history : LooksOver o.frame_history past.moments

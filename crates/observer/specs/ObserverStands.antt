@@ -1,4 +1,4 @@
--- An observer represents a history: the engine does, over a memory that looks back.
+-- An observer represents a history if its engine does, with a memory that looks back.
 use Rattle.std.specs.Prelude.{ℕ}
 use Rattle.sig_tables.specs.Past.{History}
 use Rattle.engine.specs.declared.Engine.{Engine}
@@ -9,7 +9,7 @@ use Rattle.observer.specs.LookingBack.{SeesBack, frames}
 abbrev pub ObserverStands : Engine LookingBack → History → Type 0
 ObserverStands o h = EngineStands SeesBack o h
 
--- the number of ticks so far, and of tables put in force since the opening
+-- the number of ticks so far, and of downloads put in force since the opening
 abbrev pub tick_count : Engine LookingBack → ℕ
 tick_count o = ticks_of frames o
 

@@ -1,4 +1,4 @@
--- An event that doesn't concern past frames leaves it as it is.
+-- An event that doesn't concern past frames leaves the memory as it is.
 use Rattle.std.specs.Prelude.{◌≡◌, ◌<◌, ◌≤◌, ◌-◌, length}
 use Rattle.std.proofs.Common.{refl, ap, arith}
 use Rattle.sig_types.specs.declared.frame.Field.TheVariants.{Veh, Ped, Preempt}

@@ -1,4 +1,4 @@
--- The name of each object's instance.
+-- The names of the instances of objects, and their arcs.
 use Rattle.std.specs.Prelude.{◌≡◌, ℕ, ◌≤◌, ◌<◌, ◌⊎◌, ◌-◌, ◌==◌, if◌then◌else◌, List, [], ◌∷◌, ◌++◌}
 use Rattle.sig_tables.specs.Cells.{IsCell}
 use Rattle.sig_tables.specs.declared.cells.Cell.{Cell}
@@ -9,11 +9,12 @@ use Rattle.oid_map.specs.declared.names.Name.{Name}
 use Rattle.oid_map.specs.declared.names.Name.TheVariants.{Cell as CellName, Index, Group as GroupName, PatternStatus, PatternControl, Txn, Clock, Counter, Target, ModeCode, Request, Cancel, RequestState}
 use Rattle.oid_map.specs.Objects.{asc, own}
 
--- number is one of least to most
+-- the number is from `least` to `most`
 abbrev pub IsBetween : ℕ → ℕ → ℕ → Type 0
 IsBetween number least most = (least ≤ number) × (number ≤ most)
 
--- the index columns: the number of each row, and in splits and sequences also the second index
+-- an index column of a table: it has the number of its row. Splits and sequences also have a column with their second
+-- index
 abbrev pub IsIndex : TableName → ℕ → ℕ → ℕ → Type 0
 IsIndex Phase column row sub = (column ≡ 1) × IsBetween row 1 16 × (sub ≡ 0)
 IsIndex Group column row sub = (column ≡ 1) × IsBetween row 1 2 × (sub ≡ 0)
@@ -22,7 +23,7 @@ IsIndex Split column row sub = IsBetween column 1 2 × IsBetween row 1 32 × IsB
 IsIndex Preempt column row sub = (column ≡ 1) × IsBetween row 1 8 × (sub ≡ 0)
 IsIndex Sequence column row sub = IsBetween column 1 2 × IsBetween row 1 16 × IsBetween sub 1 2
 
--- the names that there are
+-- the name exists
 abbrev pub IsName : Name → Type 0
 IsName (CellName cell) = IsCell cell
 IsName (Index table column row sub) = IsIndex table column row sub
@@ -31,13 +32,15 @@ IsName (Txn number) = IsBetween number 1 10
 IsName (RequestState number) = IsBetween number 1 10
 IsName _ = Unit {0}
 
--- those of instances that can be read: begin, id, part, total and finish of a download, requests and cancels can only be written
+-- the instance with this name can be read. Begin, id, part, total and finish of a download, requests and cancels can
+-- only be written
 abbrev pub IsReadable : Name → Type 0
 IsReadable (Txn number) = (number < 2) ⊎ (6 < number)
 IsReadable Request = ⊥
 IsReadable Cancel = ⊥
 IsReadable _ = Unit {0}
 
+-- the arcs of a cell
 abbrev pub cell_arcs : Cell → List ℕ
 cell_arcs (PhaseCell phase column) = asc ++ 1 ∷ 2 ∷ 1 ∷ column ∷ phase ∷ []
 cell_arcs (SequenceCell sequence ring) = asc ++ 7 ∷ 3 ∷ 1 ∷ 3 ∷ sequence ∷ ring ∷ []
@@ -46,6 +49,7 @@ cell_arcs (PatternCell pattern column) = asc ++ 4 ∷ 7 ∷ 1 ∷ column ∷ pat
 cell_arcs (PreemptCell preempt column) = asc ++ 6 ∷ 2 ∷ 1 ∷ column ∷ preempt ∷ []
 cell_arcs (UnitCell number) = if number == 1 then asc ++ 4 ∷ 2 ∷ 0 ∷ [] else own ++ 3 ∷ (number - 1) ∷ 0 ∷ []
 
+-- the arcs of an index
 abbrev pub index_arcs : TableName → ℕ → ℕ → ℕ → List ℕ
 index_arcs Phase column row sub = asc ++ 1 ∷ 2 ∷ 1 ∷ column ∷ row ∷ []
 index_arcs Group column row sub = asc ++ 1 ∷ 4 ∷ 1 ∷ column ∷ row ∷ []
@@ -70,10 +74,10 @@ arcs_of Request = own ++ 4 ∷ 1 ∷ 0 ∷ []
 arcs_of Cancel = own ++ 4 ∷ 2 ∷ 0 ∷ []
 arcs_of (RequestState number) = own ++ 4 ∷ 3 ∷ 1 ∷ number ∷ []
 
--- the arcs are those of an instance that can be read
+-- an instance that can be read has these arcs
 abbrev pub IsReadableInstance : List ℕ → Type 0
 IsReadableInstance arcs = (name : Name) × IsName name × IsReadable name × (arcs ≡ arcs_of name)
 
--- the arcs are those of an instance that can only be written
+-- an instance that can only be written has these arcs
 abbrev pub IsWriteOnlyInstance : List ℕ → Type 0
 IsWriteOnlyInstance arcs = (name : Name) × IsName name × (IsReadable name → ⊥) × (arcs ≡ arcs_of name)

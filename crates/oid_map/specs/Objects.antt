@@ -4,27 +4,31 @@ use Rattle.std.specs.List.{filter, find, flat_map}
 use Rattle.oid_map.specs.declared.objects.Range.{Range}
 use Rattle.oid_map.specs.Order.{is_before}
 
--- an object or objects of one form: the arcs of all their names, the ranges of the arcs that follow, and whether they can be read
+-- one object, or several objects of one form: the arcs with which all their names begin, the ranges of the other
+-- arcs, and whether the objects can be read
 pub record Row : Type 0 where
   pub arcs : List ℕ
   pub indices : List Range
   pub readable : Bool
 
--- the objects of actuated controllers (after NTCIP 1202; which rows there are is this profile's own)
+-- the prefix of the objects of actuated controllers (after NTCIP 1202; this profile chooses the rows)
 abbrev pub asc : List ℕ
 asc = 1 ∷ 3 ∷ 6 ∷ 1 ∷ 4 ∷ 1 ∷ 1206 ∷ 4 ∷ 2 ∷ 1 ∷ []
 
--- objects of our own, under the number for examples (RFC 5612)
+-- the prefix of this project's own objects, under the number for examples (RFC 5612)
 abbrev pub own : List ℕ
 own = 1 ∷ 3 ∷ 6 ∷ 1 ∷ 4 ∷ 1 ∷ 32473 ∷ 1 ∷ []
 
+-- the range from `least` to `most`
 infix 70 ◌to◌
 abbrev pub ◌to◌ : ℕ → ℕ → Range
 least to most = record { least = least; most = most }
 
+-- a row of objects that can be read
 abbrev pub readable_row : List ℕ → List Range → Row
 readable_row arcs indices = record { arcs = arcs; indices = indices; readable = true }
 
+-- a row of objects that can only be written
 abbrev pub write_only_row : List ℕ → List Range → Row
 write_only_row arcs indices = record { arcs = arcs; indices = indices; readable = false }
 
@@ -62,15 +66,16 @@ objects =
     ∷ readable_row (own ++ 4 ∷ 3 ∷ 1 ∷ []) (1 to 10 ∷ [])
     ∷ []
 
--- that many numbers from the first on
+-- this many numbers, from `first` on
 abbrev pub counted : ℕ → ℕ → List ℕ
 counted zero first = []
 counted (suc n) first = first ∷ counted n (first + 1)
 
+-- the numbers in a range
 abbrev pub numbers : Range → List ℕ
 numbers range = counted (range.most + 1 - range.least) range.least
 
--- all indices in these ranges, in their order: the last one turns fastest
+-- all tuples of indices in these ranges, in order; the last index changes fastest
 abbrev pub tuples : List Range → List (List ℕ)
 tuples [] = [] ∷ []
 tuples (range ∷ ranges) = flat_map (λ index. map (λ later. index ∷ later) (tuples ranges)) (numbers range)
@@ -87,18 +92,19 @@ readable_rows = filter (λ row. row.readable) objects
 unfoldable pub readable : List (List ℕ)
 readable = flat_map instances readable_rows
 
--- the instances that can only be written
+-- the rows that can only be written
 abbrev pub write_only_rows : List Row
 write_only_rows = filter (λ row. not row.readable) objects
 
+-- the instances that can only be written
 unfoldable pub write_only : List (List ℕ)
 write_only = flat_map instances write_only_rows
 
--- the next instance: the first readable one that comes after the name
+-- the next instance: the first readable instance after this name
 abbrev pub next_of : List ℕ → Option (List ℕ)
 next_of name = find (is_before name) readable
 
--- each of these is the next instance after the name before it, and none comes after the last
+-- each of these names is the next instance after the name before it, and no instance follows the last name
 abbrev pub IsWalk : List ℕ → List (List ℕ) → Type 0
 IsWalk name [] = next_of name ≡ None
 IsWalk name (next ∷ names) = (next_of name ≡ Some next) × IsWalk next names

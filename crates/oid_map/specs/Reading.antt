@@ -1,4 +1,5 @@
--- What the reading of a name computes, by the number of its arcs. That it is the inverse of a name's arcs, the public clauses say.
+-- How the arcs of a name are read, by their number. The clauses of the calls state that this is the inverse of
+-- `arcs_of`.
 use Rattle.std.specs.Prelude.{ℕ, ◌+◌, Bool, ◌==◌, ◌&&◌, nat_le, if◌then◌else◌, List, [], ◌∷◌, Option, Some, None}
 use Rattle.sig_tables.specs.declared.cells.Cell.TheVariants.{Phase as PhaseCell, Sequence as SequenceCell, Split as SplitCell, Pattern as PatternCell, Preempt as PreemptCell, Unit as UnitCell}
 use Rattle.oid_map.specs.declared.names.TableName.TheVariants.{Phase, Group, Pattern, Split, Preempt, Sequence}
@@ -6,17 +7,17 @@ use Rattle.oid_map.specs.declared.names.Name.{Name}
 use Rattle.oid_map.specs.declared.names.Name.TheVariants.{Cell as CellName, Index, Group as GroupName, PatternStatus, PatternControl, Txn, Clock, Counter, Target, ModeCode, Request, Cancel, RequestState}
 use Rattle.oid_map.specs.Objects.{asc, own}
 
--- the arcs that follow the prefix, where the name begins with it
+-- the arcs after the prefix, if the name begins with it
 abbrev pub under : List ℕ → List ℕ → Option (List ℕ)
 under [] name = Some name
 under (arc ∷ prefix) [] = None
 under (arc ∷ prefix) (first ∷ name) = if first == arc then under prefix name else None
 
--- number is one of least to most
+-- the number is from `least` to `most`
 abbrev pub is_between : ℕ → ℕ → ℕ → Bool
 is_between number least most = nat_le least number && nat_le number most
 
--- the names of columns, by the table
+-- the name in a column of a table; None if the column or the row doesn't exist
 abbrev pub phase_name : ℕ → ℕ → Option Name
 phase_name column phase =
     if is_between column 1 23 && is_between phase 1 16 then Some (if column == 1 then Index Phase 1 phase 0 else CellName (PhaseCell phase column)) else None
@@ -48,11 +49,12 @@ sequence_name column sequence ring =
     Some (if nat_le column 2 then Index Sequence column sequence ring else CellName (SequenceCell sequence ring))
     else None
 
--- three arcs are these
+-- the first three numbers are equal to the last three, in order
 abbrev pub is_entry : ℕ → ℕ → ℕ → ℕ → ℕ → ℕ → Bool
 is_entry group table entry first second third = group == first && table == second && entry == third
 
--- the name of a scalar under asc, and of a column with one index and with two
+-- the name that arcs under `asc` give: the name of a scalar, of a column with one index, or of a column with two
+-- indices
 abbrev pub asc_scalar : ℕ → ℕ → ℕ → Option Name
 asc_scalar group number last =
     if is_entry group number last 4 2 0 then Some (CellName (UnitCell 1))
@@ -74,14 +76,15 @@ asc_by_two group table entry column row sub =
     else if is_entry group table entry 7 3 1 then sequence_name column row sub
     else None
 
--- the name of arcs under asc
+-- the name of these arcs under `asc`
 unfoldable pub asc_name : List ℕ → Option Name
 asc_name (group ∷ number ∷ last ∷ []) = asc_scalar group number last
 asc_name (group ∷ table ∷ entry ∷ column ∷ row ∷ []) = asc_by_one group table entry column row
 asc_name (group ∷ table ∷ entry ∷ column ∷ row ∷ sub ∷ []) = asc_by_two group table entry column row sub
 asc_name _ = None
 
--- what the cabinet shows, values of the unit, and all scalars under own
+-- the name that arcs under `own` give: the name of a value that the cabinet shows, of a value of the unit, or of any
+-- scalar
 abbrev pub status_name : ℕ → Option Name
 status_name number =
     if number == 1 then Some Clock
@@ -101,21 +104,23 @@ own_scalar group number =
     else if group == 4 then (if number == 1 then Some Request else if number == 2 then Some Cancel else None)
     else None
 
--- the name of arcs under own
+-- the name of these arcs under `own`
 unfoldable pub own_name : List ℕ → Option Name
 own_name (group ∷ number ∷ last ∷ []) = if last == 0 then own_scalar group number else None
 own_name (group ∷ table ∷ entry ∷ number ∷ []) = if is_entry group table entry 4 3 1 && is_between number 1 10 then Some (RequestState number) else None
 own_name _ = None
 
--- under own, under asc or else under own
+-- the name of the arcs after the prefix `own`; None if there is no such prefix
 abbrev pub name_under_own : Option (List ℕ) → Option Name
 name_under_own (Some rest) = own_name rest
 name_under_own None = None
 
+-- the name of these arcs: by the arcs after the prefix `asc`, or, without this prefix, by those after the prefix
+-- `own`
 abbrev pub name_under : Option (List ℕ) → List ℕ → Option Name
 name_under (Some rest) arcs = asc_name rest
 name_under None arcs = name_under_own (under own arcs)
 
--- the name that has these arcs
+-- the name with these arcs, if one has them
 abbrev pub name_at : List ℕ → Option Name
 name_at arcs = name_under (under asc arcs) arcs

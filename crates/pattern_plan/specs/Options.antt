@@ -1,4 +1,4 @@
--- What is kept of the split of a pattern is what the definitions say of the tables.
+-- The options that are stored for the split of a pattern are those of the tables.
 use Rattle.std.specs.Prelude.{ℕ, Option, Some, None}
 use Rattle.std.specs.Borrow.{Bor}
 use Rattle.sig_tables.specs.declared.tables.Tables.{Tables}
@@ -7,8 +7,8 @@ use Rattle.sig_tables.specs.Splits.{split_minimum, split_maximum, split_pedestri
 use Rattle.sig_tables.specs.Layout.{Has}
 use Rattle.pattern_plan.specs.declared.split_options.SplitOptions.{SplitOptions}
 
--- the sets are those of pattern n: the phases that it holds onto the offset, that it never serves, and that it calls for their
--- minimum green, to their maximum, and for their walk
+-- the sets are those of pattern n: its coordinated phases, the phases that it omits, and those to which it gives
+-- minimum, maximum and pedestrian recall
 pub record SplitSays (o : SplitOptions) (t : Tables) (n : ℕ) : Type 0 where
   pub coordinated : Has o.coordinated (is_coordinated t n)
   pub omitted : Has o.omitted (is_omitted t n)
@@ -16,7 +16,7 @@ pub record SplitSays (o : SplitOptions) (t : Tables) (n : ℕ) : Type 0 where
   pub maximum : Has o.maximum (split_maximum t n)
   pub pedestrian : Has o.pedestrian (split_pedestrian t n)
 
--- the options that are handed in are those of the pattern that binds; there are none where none does
+-- the options are those of the pattern in effect; without a pattern there are none
 abbrev pub AreActivePattern : Option (Bor SplitOptions) → Option ℕ → Tables → Type 0
 AreActivePattern None None t = Unit {0}
 AreActivePattern (Some o) (Some n) t = SplitSays o.now t n

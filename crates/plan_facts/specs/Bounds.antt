@@ -1,4 +1,4 @@
--- Within how many ticks after the last disturbance a local zero comes, and within how many the offset is met.
+-- Bounds in ticks: how soon after the last disturbance a local zero occurs, and how soon the cabinet is on offset.
 use Rattle.std.specs.Prelude.{ℕ, ◌+◌, ◌-◌, ◌*◌, ◌==◌, max, if◌then◌else◌, List}
 use Rattle.sig_tables.specs.declared.tables.Tables.{Tables}
 use Rattle.sig_tables.specs.Slots.{cycle_time}
@@ -8,22 +8,25 @@ use Rattle.sig_tables.specs.Past.{Moment}
 use Rattle.plan_facts.specs.Disturbances.{Drift, drifts}
 use Rattle.plan_facts.specs.Greatest.{pickup_bound}
 
--- the longest that a cycle of pattern n lasts: with all that one cycle may be
+-- the longest cycle of pattern n, in ticks: its cycle plus the greatest correction of one cycle
 abbrev pub longest_cycle : Tables → ℕ → ℕ
 longest_cycle t n = cycle_time t n + most_a_cycle (correction_of t n)
 
--- the shortest that a cycle lasts in which all is corrected that one may: by shortway less what it subtracts, else as long as the longest
+-- the length in ticks of a fully corrected cycle of pattern n: with shortway the cycle less what one cycle may
+-- subtract, otherwise the longest cycle
 abbrev pub shortest_cycle : Tables → ℕ → ℕ
 shortest_cycle t n = if t.unit.mode == 3 then cycle_time t n - t.unit.subtract else longest_cycle t n
 
--- within how many ticks after a disturbance a local zero comes: a pickup, or the end of a cycle
+-- the bound in ticks for the first local zero after a disturbance: the greater of the bound for a pickup and the
+-- longest cycle
 abbrev pub zero_bound : List Moment → Tables → ℕ → ℕ
 zero_bound past t n = max (pickup_bound past) (longest_cycle t n)
 
--- how many cycles correct what one cycle does: a tick of drift may cost another
+-- how many cycles the bound counts for each cycle of correction: 2 if the clock drifts, since a tick of drift may cost
+-- another cycle, otherwise 1
 abbrev pub cycles_for_one : Drift → ℕ
 cycles_for_one d = if drifts d then 2 else 1
 
--- within how many ticks after a disturbance the offset is met, from a first local zero with this target
+-- the bound in ticks, from a disturbance on, for being on offset; `target` is the target at the first local zero
 abbrev pub offset_bound : Drift → List Moment → Tables → ℕ → ℕ → ℕ
 offset_bound d past t n target = zero_bound past t n + cycles_for_one d * needed (correction_of t n) target * longest_cycle t n

@@ -1,6 +1,6 @@
--- What a history has to meet: coordination that is left undisturbed brings local zeros, both coordinated phases Green,
--- onto the offset. Each condition looks back from one moment and is asked of every moment, so that a tick owes it of
--- only its own moment.
+-- What coordination promises about a history that is left undisturbed: local zeros occur, both coordinated phases are
+-- Green at each of them, and the cabinet reaches its offset. Each condition looks back from one moment and holds at
+-- every moment, so each tick has to keep it only for its own moment.
 use Rattle.std.specs.Prelude.{ℕ, ◌+◌, ◌-◌, ◌*◌, ◌==◌, ◌&&◌, ◌||◌, ◌≤◌, ◌<◌, nat_le, nat_lt, Bool, true, false, ◌≡◌, if◌then◌else◌, List, [], ◌∷◌}
 use Rattle.sig_types.specs.declared.frame.Colour.{Colour}
 use Rattle.sig_types.specs.declared.frame.Mode.{Mode}
@@ -22,22 +22,22 @@ abbrev pub is_zero : List Moment → Bool
 is_zero [] = false
 is_zero (m ∷ past) = is_local_zero m.frame.mode m.frame.counter (last_frame past)
 
--- both coordinated phases of the pattern coordinated are Green
+-- the mode is Coord, and both coordinated phases of its pattern are Green
 abbrev pub is_green : Mode → Tables → List Colour → Bool
 is_green (Coord n) t veh = are_coordinated_green t n veh
 is_green mode t veh = false
 
--- at a local zero both coordinated phases are Green
+-- if the last moment is a local zero, both coordinated phases are Green at it
 abbrev pub green_at_zero : List Moment → Bool
 green_at_zero [] = true
 green_at_zero (m ∷ past) = if is_zero (m ∷ past) then is_green m.frame.mode m.tables m.frame.veh else true
 
--- the moments up to an older local zero, or to the last moment where that is one
+-- the moments up to an earlier local zero; without one, all moments if the last one is a local zero, otherwise none
 abbrev pub zero_or_now : List Moment → List Moment → List Moment
 zero_or_now [] past = if is_zero past then past else []
 zero_or_now (z ∷ older) past = z ∷ older
 
--- the moments up to the first local zero since the last disturbance; none where none has come
+-- the moments up to the first local zero since the last disturbance; none if there has been no local zero
 abbrev pub first_zero : Drift → List Moment → List Moment
 first_zero d [] = []
 first_zero d (m ∷ past) = if is_disturbed d (m ∷ past) then [] else zero_or_now (first_zero d past) (m ∷ past)
@@ -46,7 +46,7 @@ abbrev pub is_some : List Moment → Bool
 is_some [] = false
 is_some (m ∷ past) = true
 
--- a local zero has come since the last disturbance
+-- there has been a local zero since the last disturbance
 abbrev pub has_zero : Drift → List Moment → Bool
 has_zero d past = is_some (first_zero d past)
 
@@ -54,23 +54,23 @@ has_zero d past = is_some (first_zero d past)
 abbrev pub zero_target : Drift → List Moment → ℕ
 zero_target d past = (last_frame (first_zero d past)).target
 
--- a local zero has come since the last disturbance, or that was fewer than that many ticks ago
+-- there has been a local zero since the last disturbance, or the last disturbance was fewer than `most` ticks ago
 abbrev pub zero_within : Drift → ℕ → List Moment → Bool
 zero_within d most past = if has_zero d past then true else nat_lt (quiet_for d past) most
 
--- counter and target are equal
+-- the cabinet is on offset: its counter equals its target
 abbrev pub is_met : Moment → Bool
 is_met m = m.frame.counter == m.frame.target
 
--- counter and target are equal; with a drifting clock even if they are one tick apart, round the cycle
+-- the counter equals its target; if the clock drifts, they may differ by one tick, modulo the cycle
 abbrev pub is_near : Drift → Moment → Bool
 is_near d m =
     is_met m || drifts d
     && (tick_later (cycle_time m.tables m.command) m.frame.counter == m.frame.target
     || tick_later (cycle_time m.tables m.command) m.frame.target == m.frame.counter)
 
--- counter and target were equal at a moment since the first local zero, at most N ticks after the last disturbance, and
--- have been near ever since
+-- at a moment since the first local zero, at most `most` ticks after the last disturbance, the counter equalled its
+-- target, and it has stayed near its target since then
 abbrev pub holds_since : Drift → ℕ → List Moment → Bool
 holds_since d most [] = false
 holds_since d most (m ∷ past) =
@@ -78,21 +78,22 @@ holds_since d most (m ∷ past) =
     then (if is_met m && nat_le (quiet_for d (m ∷ past)) most then true else holds_since d most past)
     else false
 
--- the offset is held, or a disturbance was fewer than that many ticks ago
+-- the cabinet has been on offset as in `holds_since`, or the last disturbance was fewer than `most` ticks ago
 abbrev pub offset_within : Drift → ℕ → List Moment → Bool
 offset_within d most past = if nat_le most (quiet_for d past) then holds_since d most past else true
 
--- the correction can follow the clock: one that gains is followed only by shortway
+-- the correction can follow the clock: only shortway can follow a clock that gains ticks
 abbrev pub can_follow : Drift → Tables → Bool
 can_follow d t = d.gain == 0 || t.unit.mode == 3
 
--- where a pattern is in command, a local zero comes within its bound
+-- if a pattern is commanded, a local zero occurs within its bound
 abbrev pub zero_in_time : Drift → List Moment → Bool
 zero_in_time d [] = true
 zero_in_time d (m ∷ past) =
     if is_defined m.tables m.command then zero_within d (zero_bound (m ∷ past) m.tables m.command) (m ∷ past) else true
 
--- and the offset is met within its bound from the first local zero on, and held
+-- if a pattern is commanded, its correction can follow the clock, and there has been a local zero, the cabinet is on
+-- offset within its bound and stays there
 abbrev pub offset_in_time : Drift → List Moment → Bool
 offset_in_time d [] = true
 offset_in_time d (m ∷ past) =
@@ -100,23 +101,24 @@ offset_in_time d (m ∷ past) =
     then offset_within d (offset_bound d (m ∷ past) m.tables m.command (zero_target d (m ∷ past))) (m ∷ past)
     else true
 
--- what is asked of the last moment
+-- the conditions on the last moment
 pub record MeetsNow (d : Drift) (past : List Moment) : Type 0 where
   pub green : green_at_zero past ≡ true
   pub zero : zero_in_time d past ≡ true
   pub offset : offset_in_time d past ≡ true
 
--- what is asked of every moment
+-- the conditions hold at every moment
 abbrev pub MeetsEach : Drift → List Moment → Type 0
 MeetsEach d [] = Unit {0}
 MeetsEach d (m ∷ past) = MeetsNow d (m ∷ past) × MeetsEach d past
 
--- the history meets what coordination promises
+-- the history keeps what coordination promises
 abbrev pub Meets : History → Type 0
 Meets h = MeetsEach (drift_of (past_at h)) (past_at h).moments
 
--- coordinated in pattern n: where the first local zero was off the target, counter and target are not equal before the
--- last of the cycles that were needed from there, each of the others at its shortest
+-- a correction isn't faster than computed. Suppose the mode is Coord of pattern n, the target wasn't 0 at the first
+-- local zero, and the counter equals its target. Then more ticks have passed since that local zero than in all but one
+-- of the needed cycles, each at its shortest
 abbrev pub NotSooner : Drift → ℕ → List Moment → Type 0
 NotSooner d n [] = Unit {0}
 NotSooner d n (m ∷ past) =

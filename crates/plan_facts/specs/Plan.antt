@@ -1,4 +1,5 @@
--- What is known of the plan of a defined pattern of consistent tables, in ticks (FHWA Signal Timing Manual: cycle, split, offset, force-off).
+-- What is known of the plan of a defined pattern of consistent tables, in ticks (FHWA Signal Timing Manual: cycle,
+-- split, offset, force-off).
 use Rattle.std.specs.Prelude.{ℕ, ◌≡◌, ◌≢◌, ◌≤◌, ◌<◌, ◌⊎◌, ◌+◌, ◌*◌, true, false}
 use Rattle.sig_types.specs.Phases.{is_phase}
 use Rattle.sig_tables.specs.declared.tables.Tables.{Tables}
@@ -7,7 +8,7 @@ use Rattle.sig_tables.specs.Sides.{are_of_one_side, is_used}
 use Rattle.sig_tables.specs.Cells.{pattern_of}
 use Rattle.sig_tables.specs.Slots.{cycle_time, is_omitted, is_coordinated, coordinated_phase, slot_start, slot_end, side_end, least_service, zero_point, force_point, window, permissive_end}
 
--- pattern n names a split and a sequence in use, and an offset below its cycle, in seconds
+-- pattern n has a split and a sequence in use, and an offset below its cycle (both in seconds)
 pub record NamesThere (t : Tables) (n : ℕ) : Type 0 where
   pub least_split : 1 ≤ (pattern_of t n).split
   pub greatest_split : (pattern_of t n).split ≤ 32
@@ -15,15 +16,15 @@ pub record NamesThere (t : Tables) (n : ℕ) : Type 0 where
   pub used : is_used t (pattern_of t n).sequence ≡ true
   pub offset : (pattern_of t n).offset < (pattern_of t n).cycle
 
--- pattern n coordinates one phase of each ring, that of the ring and no other, and omits neither
+-- pattern n coordinates exactly one phase of each ring, and omits neither
 pub record Coordinates (t : Tables) (n : ℕ) : Type 0 where
   pub coordinated : (r : ℕ) → (r ≡ 1) ⊎ (r ≡ 2) → is_coordinated t n (coordinated_phase t n r) ≡ true
   pub ring : (r : ℕ) → (r ≡ 1) ⊎ (r ≡ 2) → ring_of t (coordinated_phase t n r) ≡ r
   pub served : (r : ℕ) → (r ≡ 1) ⊎ (r ≡ 2) → is_omitted t n (coordinated_phase t n r) ≡ false
   pub alone : (q : ℕ) → is_coordinated t n q ≡ true → q ≡ coordinated_phase t n (ring_of t q)
 
--- the slots of pattern n lie in its cycle: local zero in both coordinated ones, and each other one clear of local zero, before
--- it or after the coordinated one of its ring
+-- the slots of pattern n lie within the cycle, and slots of one ring don't overlap. Local zero is in both coordinated
+-- slots. Each other slot ends by local zero, or starts after the coordinated slot of its ring
 pub record SlotsLie (t : Tables) (n : ℕ) : Type 0 where
   pub in_cycle : (p : ℕ) → is_enabled t p ≡ true → slot_end t n p ≤ cycle_time t n
   pub zero_in_cycle : zero_point t n < cycle_time t n
@@ -33,41 +34,45 @@ pub record SlotsLie (t : Tables) (n : ℕ) : Type 0 where
   pub clear_of_zero : (p q : ℕ) → is_enabled t p ≡ true → is_coordinated t n q ≡ true → ring_of t p ≡ ring_of t q → p ≢ q
       → (slot_end t n p ≤ zero_point t n) ⊎ ((slot_end t n q ≤ slot_start t n p) × (zero_point t n < slot_start t n p))
 
--- both rings cross each barrier together: of two sides one has ended in both rings when a slot of the other starts
+-- both rings cross each barrier together: of two barrier groups, one has ended in both rings when a slot of the other
+-- starts
 pub record SidesLie (t : Tables) (n : ℕ) : Type 0 where
   pub apart : (p q : ℕ) → is_enabled t p ≡ true → is_enabled t q ≡ true → are_of_one_side t p q ≡ false
       → (side_end t n p ≤ slot_start t n q) ⊎ (side_end t n q ≤ slot_start t n p)
   pub one_end : (p q : ℕ) → are_of_one_side t p q ≡ true → side_end t n p ≡ side_end t n q
 
--- from local zero to the window both coordinated phases may stay Green: for the waits of one cycle, for its skips, and
--- for the minimum service of either after the skips
+-- from local zero to the end of the window both coordinated phases may stay Green. The window is long enough for the
+-- waits of one cycle, for its skips, and for the minimum service of each coordinated phase plus the ticks that one
+-- cycle may skip
 pub record WindowHolds (t : Tables) (n : ℕ) : Type 0 where
   pub some : 1 ≤ window t n
   pub stands : t.unit.add ≤ window t n
   pub skips : 2 * t.unit.subtract ≤ window t n
   pub service : (q : ℕ) → is_coordinated t n q ≡ true → t.unit.subtract + least_service t q ≤ window t n
 
--- a coordinated phase may end from the window on, and clears before the cycle ends
+-- a coordinated phase may end from the end of the window on, and its clearance after its force point ends within the
+-- cycle
 pub record HeldForce (t : Tables) (n q : ℕ) : Type 0 where
   pub window : window t n ≤ force_point t n q
   pub clears : force_point t n q + clearance t q ≤ cycle_time t n
   pub last : force_point t n q + 30 ≤ cycle_time t n
 
--- a phase that is forced off at its force point is served by then, and clears before the cycle ends
+-- a phase that isn't coordinated can have its minimum service by its force point, and its clearance after that ends
+-- within the cycle
 pub record OtherForce (t : Tables) (n p : ℕ) : Type 0 where
   pub served : least_service t p ≤ force_point t n p
   pub clears : force_point t n p + clearance t p ≤ cycle_time t n
   pub permissive : permissive_end t n p + least_service t p ≡ force_point t n p
 
--- every force point lies in the cycle; a disabled phase has none, and only a phase that is neither coordinated nor omitted has
--- a permissive end
+-- every force point lies in the cycle, and is 0 for a disabled phase. The permissive end of a phase is 0 if the phase
+-- is disabled, coordinated or omitted
 pub record Untimed (t : Tables) (n : ℕ) : Type 0 where
   pub within : (p : ℕ) → force_point t n p < cycle_time t n
   pub disabled : (p : ℕ) → is_enabled t p ≡ false → (force_point t n p ≡ 0) × (permissive_end t n p ≡ 0)
   pub coordinated : (q : ℕ) → is_coordinated t n q ≡ true → permissive_end t n q ≡ 0
   pub omitted : (p : ℕ) → is_omitted t n p ≡ true → permissive_end t n p ≡ 0
 
--- all of it
+-- all that is known of the plan of pattern n
 pub record PlanHolds (t : Tables) (n : ℕ) : Type 0 where
   pub names : NamesThere t n
   pub coordinates : Coordinates t n

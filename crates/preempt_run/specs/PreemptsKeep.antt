@@ -1,4 +1,4 @@
--- What is kept of preemption is what looking back over the inputs and the moments gives.
+-- The registers of preemption are what looking back over the inputs and the moments gives.
 use Rattle.std.specs.Prelude.{ℕ, ◌≡◌, ◌<◌, ◌≤◌, ◌+◌, ◌==◌, false, List, length}
 use Rattle.sig_types.specs.Phases.{is_in}
 use Rattle.sig_types.specs.PhaseSet.{has}
@@ -13,13 +13,13 @@ use Rattle.phase_clock.specs.MemberRuns.{MemberRunsStand}
 use Rattle.preempt_stages.specs.Inputs.{preempts_seen}
 use Rattle.preempt_stages.specs.Dwelling.{dwells_green, dwells_off, is_dwell, NamesPhases, EachFits}
 
--- how many frames have come
+-- the number of frames so far
 abbrev pub step_count : Preempts → ℕ
 step_count c = c.steps
 
--- what is kept is what these inputs since the last frame, and these moments, give: the inputs that are on and for how many ticks
--- each has been; the mode of the last frame, when it began, and when the stages of its preempt began; and for each phase
--- for how many ticks of dwell it has been Green, and on in no ring
+-- the registers represent these inputs since the last frame and these moments. They hold the inputs that are on and for
+-- how many ticks each has been on, the mode of the last frame and when it began, and when the stages of its preempt
+-- began. For each phase they count the ticks of dwell for which it has been Green, and for which it has been off
 pub record PreemptsKeep (c : Preempts) (heard : List Heard) (past : List Moment) : Type 0 where
   pub steps : length past ≡ c.steps + 1
   pub on : (t : Tables) (i : ℕ) → 0 < i → i ≤ 8 → has c.on i ≡ preempt_on (is_in (last_moment t past).preempts i) heard i
@@ -31,13 +31,13 @@ pub record PreemptsKeep (c : Preempts) (heard : List Heard) (past : List Moment)
   pub off : (p : ℕ) → 0 < p → p ≤ 16 → MemberRunsStand c.off c.steps p (dwells_off p) past
   pub fits : EachFits past
 
--- the registers represent the past: of all that has come they look at the inputs and only the moments, so that a
--- download, a command, a clock set or a priority request leaves them as they are
+-- the registers represent the past. They use only its inputs and its moments, so a download, a command, a set clock or
+-- a priority request doesn't change them
 abbrev pub PreemptsStand : Preempts → Past → Type 0
 PreemptsStand c past = PreemptsKeep c past.heard past.moments
 
--- a moment continues with the last one apart from all preempts: no input is on at it, and its frame has the mode of the
--- last, which is not a dwell; what its rings have on are phases, or nothing
+-- moment m continues the past without preemption: no preempt input is on at it, and its frame has the mode of the last
+-- one, which isn't a dwell. The frame's entry for each ring is a phase, or 0
 pub record StaysBeside (past : Past) (m : Moment) : Type 0 where
   pub saw : m.preempts ≡ preempts_seen past
   pub none : (i : ℕ) → 0 < i → i ≤ 8 → is_in (preempts_seen past) i ≡ false

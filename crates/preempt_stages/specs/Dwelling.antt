@@ -1,4 +1,4 @@
--- What a frame in Dwell says of each phase, whatever set the tables ask for.
+-- What a frame in Dwell shows of each phase, for any dwell phases in the tables.
 use Rattle.std.specs.Prelude.{ℕ, ◌≡◌, ◌≤◌, ◌==◌, ◌&&◌, ◌||◌, not, Bool, true, false, List, [], ◌∷◌, length}
 use Rattle.sig_types.specs.declared.frame.Mode.{Mode}
 use Rattle.sig_types.specs.declared.frame.Mode.TheVariants.{Dwell}
@@ -19,32 +19,32 @@ is_dwell _ = false
 abbrev pub dwells : ℕ → Moment → Bool
 dwells i m = same_mode m.frame.mode (Dwell i)
 
--- phase p is on in no ring of the frame
+-- phase p isn't on in either ring of the frame
 abbrev pub is_off : Frame → ℕ → Bool
 is_off f p = not (on_in f 1 == p) && not (on_in f 2 == p)
 
--- some preempt dwells, and phase p is Green
+-- the mode is the dwell of some preempt, and phase p is Green
 abbrev pub dwells_green : ℕ → Moment → Bool
 dwells_green p m = is_dwell m.frame.mode && is_green m.frame p
 
--- some preempt dwells, and phase p is on in no ring
+-- the mode is the dwell of some preempt, and phase p isn't on in either ring
 abbrev pub dwells_off : ℕ → Moment → Bool
 dwells_off p m = is_dwell m.frame.mode && is_off m.frame p
 
--- each of the listed phases has been Green in each of the last n frames, all of them of dwell
+-- each of the last n frames is in a dwell and shows each listed phase Green
 abbrev pub each_green : ℕ → List ℕ → List Moment → Bool
 each_green n xs past = every (λ p. lasts n (dwells_green p) past) xs
 
--- each phase that is not listed has been on in no ring in any of the last n frames, all of them of dwell
+-- each of the last n frames is in a dwell, and in none of them a phase is on that isn't listed
 abbrev pub each_off : ℕ → List ℕ → List Moment → Bool
 each_off n xs past = every (λ p. is_in xs p || lasts n (dwells_off p) past) all_phases
 
--- what a ring has on is a phase, or nothing
+-- the frame's entry for each ring is a phase, or 0
 pub record NamesPhases (f : Frame) : Type 0 where
   pub first : on_in f 1 ≤ 16
   pub second : on_in f 2 ≤ 16
 
--- each of the frames shows sixteen phases, and what its rings have on are phases, or nothing
+-- each frame shows sixteen phases, and its entry for each ring is a phase, or 0
 abbrev pub EachFits : List Moment → Type 0
 EachFits [] = Unit {0}
 EachFits (m ∷ past) = (length m.frame.veh ≡ 16) × NamesPhases m.frame × EachFits past

@@ -1,4 +1,4 @@
--- Goals and smaller times as code gives them.
+-- Goals and limits of times, as the code represents them.
 use Rattle.std.specs.Prelude.{ℕ, ◌≡◌, Option, Some, None}
 use Rattle.sig_types.specs.declared.frame.Mode.{Mode}
 use Rattle.sig_types.specs.declared.frame.Mode.TheVariants.{Seek}
@@ -11,17 +11,17 @@ use Rattle.sig_tables.specs.Layout.{Has}
 use Rattle.sig_tables.specs.Splits.{coordinated_phases}
 use Rattle.sig_tables.specs.Lesser.{Lesser, InFull, AtMost}
 
--- the set is that of the phases that the sought pattern holds onto the offset; in other modes than Seek any set will do
+-- in Seek the set has the coordinated phases of the pattern; in other modes any set is allowed
 abbrev pub AreSought : PhaseSet → Tables → Mode → Type 0
 AreSought s t (Seek n) = Has s (is_in (coordinated_phases t n))
 AreSought s t _ = Unit {0}
 
--- the smaller times of walk and pedestrian clearance as two numbers of ticks; none for the times in full
+-- the limits of walk and pedestrian clearance as two numbers of ticks; none without limits
 abbrev pub ticks_of : Lesser → Option (ℕ × ℕ)
 ticks_of InFull = None
 ticks_of (AtMost walk clear) = Some (walk, clear)
 
--- two rows of preempts say the same of the stages
+-- two rows of preempts are the same for the stages
 pub record SameStages (a b : Preempt) : Type 0 where
   pub minimum_duration : a.minimum_duration ≡ b.minimum_duration
   pub minimum_green : a.minimum_green ≡ b.minimum_green

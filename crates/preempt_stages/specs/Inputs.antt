@@ -1,4 +1,4 @@
--- Inputs of preempts as a tick looks at them.
+-- The inputs of preempts at a tick.
 use Rattle.std.specs.Prelude.{ℕ, List}
 use Rattle.sig_tables.specs.Past.{Past}
 use Rattle.sig_tables.specs.Preempts.{preempts_on}

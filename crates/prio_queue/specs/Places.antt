@@ -1,14 +1,14 @@
--- What is kept of one request, as the definitions see it.
+-- What is stored of one priority request, in terms of the definitions.
 use Rattle.std.specs.Prelude.{ℕ, zero, suc, ◌≤◌, ◌==◌, ◌&&◌, not, nat_le, Bool, false, if◌then◌else◌, Option, Some, None}
 use Rattle.sig_tables.specs.declared.tables.Tables.{Tables}
 use Rattle.sig_tables.specs.Priority.{Place, stays_until, has_stayed, leader_for}
 use Rattle.prio_queue.specs.declared.place.Place.{Place as Kept}
 
--- the place of the definitions
+-- the place that a stored request represents in the definitions
 abbrev pub place_meant : Kept → Place
 place_meant p = record { ticks = p.ticks; request = p.request }
 
--- the same where there is one
+-- the place that a stored request represents, if there is one
 abbrev pub meant : Option Kept → Option Place
 meant None = None
 meant (Some p) = Some (place_meant p)
@@ -18,12 +18,12 @@ abbrev pub was_cancelled : Option Kept → Bool
 was_cancelled None = false
 was_cancelled (Some p) = p.cancelled
 
--- it was given after at most that many ticks
+-- the request was given after at most `ticks` ticks
 abbrev pub IsGivenBy : ℕ → Option Kept → Type 0
 IsGivenBy ticks None = Unit {0}
 IsGivenBy ticks (Some p) = p.ticks ≤ ticks
 
--- it stays no longer than to this tick
+-- the request departs at tick `until` or before
 abbrev pub StaysWithin : ℕ → Option Kept → Type 0
 StaysWithin until None = Unit {0}
 StaysWithin until (Some p) = stays_until (place_meant p) ≤ until
@@ -33,17 +33,18 @@ abbrev pub some_number : ℕ → Option ℕ
 some_number zero = None
 some_number (suc k) = Some (suc k)
 
--- it is number k
+-- the number is k
 abbrev pub is_number : Option ℕ → ℕ → Bool
 is_number None k = false
 is_number (Some j) k = j == k
 
--- the request where it is live and for a coordinated phase of pattern n, with the leader of the others
+-- the leader among the others and a stored request, which counts only if it is live and for a coordinated phase of
+-- pattern n
 abbrev pub leader_by : Tables → ℕ → ℕ → Option Kept → Option Place → Option Place
 leader_by t n ticks kept others =
     if has_stayed ticks (meant kept) && not (was_cancelled kept) then leader_for t n (meant kept) others else others
 
--- the state of what is kept after N ticks, where it was active at the last of them or not
+-- the state of a stored request after `ticks` ticks, by whether it was active at the last of them
 abbrev pub kept_state : Option Kept → ℕ → Bool → ℕ
 kept_state None ticks active = 0
 kept_state (Some p) ticks active =

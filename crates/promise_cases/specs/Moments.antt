@@ -1,4 +1,5 @@
--- Moments of a cabinet with the standard pattern in command that do not meet coordination in one way. The newest is the first.
+-- Moments of a cabinet with the standard pattern commanded, each with one broken promise of coordination. The newest is
+-- the first.
 use Rattle.std.specs.Prelude.{ℕ, zero, suc, ◌+◌, List, [], ◌∷◌, replicate}
 use Rattle.sig_types.specs.declared.frame.Colour.{Colour}
 use Rattle.sig_types.specs.declared.frame.Colour.TheVariants.{Green, Red}
@@ -9,11 +10,11 @@ use Rattle.sig_tables.specs.Standard.{std8}
 use Rattle.plan_facts.specs.Disturbances.{drift_of}
 use Rattle.plan_facts.specs.Meets.{Meets, MeetsEach}
 
--- the moment before any tick, with the standard pattern in command
+-- the moment before any tick, with the standard pattern commanded
 abbrev pub opened : Moment
 opened = record (first_moment std8) { command = 1 }
 
--- the moment after N ticks in the standard pattern, with this colour on its coordinated phases, 2 and 6
+-- the moment of this tick in the standard pattern, with this colour of its coordinated phases, 2 and 6
 abbrev pub moment_of : ℕ → Colour → ℕ → ℕ → Moment
 moment_of tick colour counter target = record (first_moment std8) {
   number = tick;
@@ -27,7 +28,7 @@ moment_of tick colour counter target = record (first_moment std8) {
   };
 }
 
--- that many moments with the coordinated phases Green, this counter and this target, after those of that many ticks
+-- n moments with the coordinated phases Green, this counter and this target, after `ticks` ticks
 abbrev pub standing : ℕ → ℕ → ℕ → ℕ → List Moment → List Moment
 standing zero ticks counter target past = past
 standing (suc n) ticks counter target past = moment_of (suc n + ticks) Green counter target ∷ standing n ticks counter target past
@@ -36,14 +37,14 @@ standing (suc n) ticks counter target past = moment_of (suc n + ticks) Green cou
 abbrev pub red_zero : List Moment
 red_zero = moment_of 1 Red 0 0 ∷ opened ∷ []
 
--- that many ticks without a local zero
+-- n ticks without a local zero
 abbrev pub without_zero : ℕ → List Moment
 without_zero n = standing n 0 5 5 (opened ∷ [])
 
--- a local zero on the offset, and then that many ticks at which counter and target are not equal
+-- a local zero on offset, and then n ticks at which counter and target differ
 abbrev pub off_target : ℕ → List Moment
 off_target n = standing n 1 5 6 (moment_of 1 Green 0 0 ∷ opened ∷ [])
 
--- what a history has to meet is asked of each of its moments, with the drift of its clock
+-- a history that keeps the promises of coordination keeps them at each of its moments, with the drift of its clock
 abbrev pub MeetsAsked : Type 0
 MeetsAsked = (h : History) → Meets h → MeetsEach (drift_of (past_at h)) (past_at h).moments

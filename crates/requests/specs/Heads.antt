@@ -12,10 +12,10 @@ use Rattle.requests.specs.Requests.{is_response}
 abbrev pub answers_by_head : ℤ → Head → Bool
 answers_by_head id head = is_response head.pdu && int_eq head.id id
 
--- its status, where it is one
+-- the status of a head, if it is that of a Response with this id
 abbrev pub status_by_head : ℤ → Head → Option ℤ
 status_by_head id head = if answers_by_head id head then Some head.status else None
 
--- the status of a frame that is a Response with this id
+-- the status of a message, if it is a Response with this id
 abbrev pub status_at : ℤ → List ℕ → Option ℤ
 status_at id text = option_map head_of (message_of text) >>= status_by_head id

@@ -15,7 +15,7 @@ use Rattle.snmp_msg.specs.Reading.{message_of}
 use Rattle.oid_map.specs.declared.names.Name.{Name}
 use Rattle.oid_map.specs.Names.{arcs_of}
 
--- a request of a community under an id
+-- a request with this community, id and bindings
 abbrev pub request : Pdu → List ℕ → ℤ → List Bind → Message
 request pdu community id binds = record {
   community = record { items = community };
@@ -26,29 +26,32 @@ request pdu community id binds = record {
   binds = record { items = binds };
 }
 
--- the octets of a Set of these bindings, and of a Get
+-- the octets of a Set with these bindings
 abbrev pub set_text : List ℕ → ℤ → List Bind → List ℕ
 set_text community id binds = shortest (request Set community id binds)
 
+-- the octets of a Get with these bindings
 abbrev pub get_text : List ℕ → ℤ → List Bind → List ℕ
 get_text community id binds = shortest (request Get community id binds)
 
--- an instance with a value
+-- a binding of an instance and a value
 abbrev pub bound : Name → Value → Bind
 bound name value = record { name = record { items = arcs_of name }; value = value }
 
--- an instance with a number, and one that is asked for
+-- a binding of an instance and a number
 abbrev pub number_at : Name → ℕ → Bind
 number_at name n = bound name (Int (pos n))
 
+-- a binding that asks for an instance
 abbrev pub asked_for : Name → Bind
 asked_for name = bound name Null
 
--- content as the value of a binding
+-- the content of a cell as the value of a binding
 abbrev pub value_of : Content → Value
 value_of (Number n) = Int (pos n)
 value_of (Octets octets) = OctetsValue (record { items = octets })
 
+-- the message is a Response
 abbrev pub is_response : Pdu → Bool
 is_response Response = true
 is_response Get = false
@@ -59,11 +62,11 @@ is_response Set = false
 abbrev pub answers : ℤ → Message → Bool
 answers id m = is_response m.pdu && int_eq m.id id
 
--- the Response says that all went well
+-- the Response reports no error: its status is 0
 abbrev pub is_good : Message → Bool
 is_good m = int_eq m.status (pos 0)
 
--- the messages among what arrived, in order
+-- the messages among the octets that arrived, in order
 abbrev pub messages : List (List ℕ) → List Message
 messages arrived = filter_map message_of arrived
 
@@ -72,7 +75,7 @@ abbrev pub status_of : Option Message → Option ℤ
 status_of None = None
 status_of (Some m) = Some m.status
 
--- the octets of a frame, if there is one
+-- the octets of a message, if there is one
 abbrev pub octets_in : Option (ArrayVec ℕ) → Option (List ℕ)
 octets_in None = None
 octets_in (Some frame) = Some frame.items

@@ -5,7 +5,7 @@ ghost use Rattle.snmp_msg.specs.Shortest.{IsWritableBind, IsWritableValue};
 ghost use Rattle.oid_map.specs.Names.{IsName};
 ghost use Rattle.oid_map.specs.declared.names.Name.{Name};
 ghost use Rattle.sig_tables.specs.Cells.{IsCell, IsShort, content_of};
-ghost use Rattle.requests.specs.Requests.{asked_for, bound, number_at, value_of};
+ghost use Rattle.requests.specs.Requests.{bound, number_at, value_of};
 
 use arrayvec::ArrayVec;
 use oid_map::{Name, oid_of};
@@ -33,15 +33,6 @@ pub fn number_at(name: Name, number: u32) -> Bind
     ensures writable { IsWritableBind result }
 {
     bound(name, Value::Int(number as i32))
-}
-
-/// An instance whose value is asked for.
-pub fn asked_for(name: Name) -> Bind
-    requires name { IsName name }
-    ensures bound { result ≡ asked_for name }
-    ensures writable { IsWritableBind result }
-{
-    bound(name, Value::Null)
 }
 
 /// What is in a cell, as a value.

@@ -12,10 +12,10 @@ ghost use Rattle.sig_types.specs.Items.{texts_of};
 ghost use Rattle.requests.specs.Requests.{answers, messages, status_of};
 ghost use Rattle.requests.specs.Heads.{answers_by_head, status_at};
 
-pub use bindings::{asked_for, cell_at, number_at};
+pub use bindings::{cell_at, number_at};
 use sig_types::Octets;
 use snmp_msg::{Head, Message, Pdu, read_head};
-pub use writing::{write_get, write_get_around, write_set};
+pub use writing::{write_get_around, write_set};
 
 /// Whether a message is the Response to what was sent under an id.
 pub fn answers(id: i32, m: &Message) -> bool

@@ -4,7 +4,7 @@ ghost use Rattle.std.specs.Prelude.{◌≡◌, ◌≤◌, List, length};
 ghost use Rattle.std.specs.List.{flat_map};
 ghost use Rattle.snmp_msg.specs.Shortest.{IsWritableMessage, binding_text, shortest};
 ghost use Rattle.snmp_msg.specs.declared.message.Bind.{Bind};
-ghost use Rattle.snmp_msg.specs.declared.message.Pdu.TheVariants.{Get, Set};
+ghost use Rattle.snmp_msg.specs.declared.message.Pdu.TheVariants.{Set};
 ghost use Rattle.requests.specs.Requests.{get_text, request, set_text};
 
 use arrayvec::ArrayVec;
@@ -39,16 +39,6 @@ pub fn write_set(community: &ArrayVec<u8, 32>, id: i32, binds: &[Bind]) -> Octet
     ensures { result.items ≡ set_text community.now.items id binds.now }
 {
     write_request(Pdu::Set, community, id, binds)
-}
-
-/// The octets of a Get of these bindings.
-pub fn write_get(community: &ArrayVec<u8, 32>, id: i32, binds: &[Bind]) -> Octets
-    requires few { length binds.now ≤ 32 }
-    requires writable { IsWritableMessage (request Get community.now.items id binds.now) }
-    requires fits { length (get_text community.now.items id binds.now) ≤ 1472 }
-    ensures { result.items ≡ get_text community.now.items id binds.now }
-{
-    write_request(Pdu::Get, community, id, binds)
 }
 
 /// The octets of a Get of bindings whose texts, one after another, are `list`.

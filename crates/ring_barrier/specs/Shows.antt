@@ -1,4 +1,4 @@
--- What the rings look at in code and in the definitions.
+-- What the rings see at a tick, in code and in the definitions.
 use Rattle.std.specs.Prelude.{ℕ, ◌-◌, ◌≤◌, ◌≡◌, ◌&&◌, Bool, true, false, get_or, List}
 use Rattle.sig_types.specs.declared.phase_set.PhaseSet.{PhaseSet}
 use Rattle.sig_types.specs.Phases.{is_phase, is_in}
@@ -12,23 +12,24 @@ use Rattle.sig_tables.specs.Moves.{can_join}
 use Rattle.ring_barrier.specs.declared.view.RingView.{RingView}
 use Rattle.ring_barrier.specs.declared.view.View.{View}
 
--- for each ring whether it is open
+-- whether each ring is open
 abbrev pub Opens : List Bool → Scene → Type 0
 Opens opening w = (r : ℕ) → 1 ≤ r → r ≤ 2 → get_or opening (r - 1) false ≡ is_open w r
 
--- each of them is a phase
+-- each number in the list is a phase
 abbrev pub ArePhases : List ℕ → Type 0
 ArePhases phases = (q : ℕ) → is_in phases q ≡ true → is_phase q ≡ true
 
--- the layout is that of the tables, and the rings are those that the definitions look at
+-- the layout is that of the tables, and what the rings show is that of the definitions: which phase is on in each,
+-- whether it is open, and which phases may begin
 pub record ShowsRings (v : RingView) (w : Scene) : Type 0 where
   pub laid : LaidOut v.layout.now w.tables
   pub on : (r : ℕ) → 1 ≤ r → r ≤ 2 → get_or v.on (r - 1) 0 ≡ on_phase w r
   pub opening : Opens v.opening w
   pub startable : Has v.startable (is_startable w)
 
--- and so is all else that decides their moves: the order of the sequence, what was on last, and which phases are wanted now,
--- once the clearance of a ring is over, and once that of both is
+-- everything else that decides the moves also is that of the definitions: the order of the sequence, the phases that
+-- were on last, and the phases that are wanted now, after the clearance of a ring, and after that of both rings
 pub record Shows (v : View) (w : Scene) : Type 0 where
   pub rings : ShowsRings v.rings w
   pub ordered : Ordered v.rings.layout.now w.tables w.sequence
@@ -42,11 +43,11 @@ pub record Shows (v : View) (w : Scene) : Type 0 where
   pub done : Has v.done (is_done w)
   pub forced : Has v.forced (is_forced w)
 
--- and these are the phases of the present side
+-- `side` also is the set of the phases in the present barrier group
 pub record Sees (v : View) (side : PhaseSet) (w : Scene) : Type 0 where
   pub shows : Shows v w
   pub of_side : Has side (are_of_one_side w.tables (present_side w))
 
--- a phase is Green and cleared, so that it may end on the way to a goal
+-- phase p is Green and has been so for its minimum, so it may end on the way to a goal
 abbrev pub is_leaving : Scene → ℕ → Bool
 is_leaving w p = is_green w.frame p && is_cleared w.mode w.tables w.past p

@@ -1,5 +1,5 @@
--- The lines of a cabinet's round as they are written of its book: its journal, and the replies, each after the frames
--- before it.
+-- The lines of a cabinet's round as they are written from its book: its journal, then the displays and the replies in
+-- order.
 use Rattle.std.specs.Prelude.{ℕ, ◌-◌, List, [], ◌∷◌, ◌++◌, length, take, drop}
 use Rattle.sig_types.specs.declared.frame.Frame.{Frame}
 use Rattle.trace_text.specs.declared.lines.Line.{Line}
@@ -12,16 +12,16 @@ use Rattle.cab_book.specs.declared.happened.Answered.{Answered}
 use Rattle.cab_book.specs.Books.{journal_of, written_in, answered_in}
 use Rattle.cab_book.specs.Happenings.{replies_in}
 
--- the frames of a round that have a line, from one place up to another
+-- the displays of a round that have a line, from one place up to another
 abbrev pub frames_between : ℕ → ℕ → List (ℕ × Frame) → List (ℕ × Frame)
 frames_between first end written = take (end - first) (drop first written)
 
--- the lines of a reply: the end of a download, where there is one, and then the answer or silence
+-- the lines of a reply: an L line if a download ended, then an A line
 abbrev pub answer_lines : ℕ → Reply → List Line
 answer_lines cab r = load_lines cab r.load ++ A cab r.pass r.text ∷ []
 
--- the lines of these replies, each after the frames before it, and of the frames after the last; the frames before a
--- first place have theirs already
+-- the lines of these replies, each after the displays that precede it, and then of the remaining displays. The
+-- displays before the place `first` have been written
 abbrev pub told_lines : ℕ → ℕ → List (ℕ × Frame) → List Answered → List Line
 told_lines cab first written [] = frame_lines cab (drop first written)
 told_lines cab first written (a ∷ answered) =
@@ -31,9 +31,10 @@ told_lines cab first written (a ∷ answered) =
 abbrev pub book_lines : ℕ → Book → List Line
 book_lines cab b = J cab (runs_of (journal_of b)) ∷ told_lines cab 0 (written_in b) (answered_in b)
 
--- the lines of the frames that a book has after those of an earlier one, and of the replies
+-- the lines of the displays that one book has after those of an earlier book
 abbrev pub new_frame_lines : ℕ → Book → Book → List Line
 new_frame_lines cab old new = frame_lines cab (drop (length (written_in old)) (written_in new))
 
+-- the lines of the replies that one book has after those of an earlier book
 abbrev pub new_reply_lines : ℕ → Book → Book → List Line
 new_reply_lines cab old new = reply_lines cab (replies_in (drop (length (answered_in old)) (answered_in new)))

@@ -1,4 +1,4 @@
--- What books have replied in a round, silence left out.
+-- What books have replied in a round, without the messages that got no reply.
 use Rattle.std.specs.Prelude.{ℕ, ◌≡◌, ◌<◌, List, length, get_or}
 use Rattle.sig_types.specs.declared.streams.Answers.{Answers}
 use Rattle.sig_types.specs.Items.{texts_of}
@@ -10,17 +10,17 @@ use Rattle.cab_book.specs.declared.book.Book.{Book}
 use Rattle.cab_book.specs.Happenings.{replies_in}
 use Rattle.cab_book.specs.Books.{answered_in}
 
--- what a book has replied in its round, in order
+-- the answers of a book in its round, in order
 abbrev pub replied_in : Book → List Reply
 replied_in b = answers_in (replies_in (answered_in b))
 
--- these are the texts of the replies on each of the three streams
+-- these are the texts of these replies on each of the three streams
 pub record AreAnswers (answers : Answers) (replies : List Reply) : Type 0 where
   pub polls : texts_of answers.polls.items ≡ replied_on (pass_of Poll) replies
   pub loads : texts_of answers.loads.items ≡ replied_on (pass_of Load) replies
   pub prios : texts_of answers.prios.items ≡ replied_on (pass_of Prio) replies
 
--- these are those of each book
+-- these are the texts of the replies of each book
 pub record EachAnswers (all : List Answers) (books : List Book) : Type 0 where
   pub many : length all ≡ length books
   pub each : (k : ℕ) (answers : Answers) (b : Book) → k < length books → AreAnswers (get_or all k answers) (replied_in (get_or books k b))

@@ -1,4 +1,4 @@
--- The rules by rising number, and the number of each, which the program prints.
+-- The rules in rising order of their numbers, which the program prints.
 use Rattle.std.specs.Prelude.{ℕ, List, [], ◌∷◌}
 use Rattle.rule_book.specs.declared.rules.Rule.{Rule}
 use Rattle.rule_book.specs.declared.rules.Rule.TheVariants.{OnPhase, OnSequence, OnPattern, TwoSides, Correction, PreemptPhases, LayoutInForce}
@@ -46,7 +46,7 @@ number_of Correction = 13
 number_of PreemptPhases = 20
 number_of LayoutInForce = 21
 
--- all rules, by rising number
+-- all rules, in rising order of their numbers
 abbrev pub all_rules : List Rule
 all_rules =
     OnPhase Ring ∷ OnPhase OtherPhases ∷ OnPhase NamedBack ∷ OnPhase OtherRing ∷ OnPhase ConcurrentPhase ∷ OnPhase SharedList

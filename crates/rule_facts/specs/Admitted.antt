@@ -1,4 +1,5 @@
--- A history whose tables have all passed the rules: those it opened with, and each download beside those then in force.
+-- A history whose tables have all been accepted by the rules: the opening tables, and each download compared with the
+-- tables then in force.
 use Rattle.std.specs.Prelude.{◌≡◌, List, [], Bool}
 use Rattle.sig_types.specs.declared.frame.Mode.TheVariants.{Flash}
 use Rattle.sig_tables.specs.declared.tables.Tables.{Tables}
@@ -11,21 +12,21 @@ use Rattle.rule_book.specs.Rules.{broken, Consistent}
 use Rattle.tick_laws.specs.Safe.{EachApart, EachOne, EachEnabled}
 use Rattle.tick_laws.specs.Walking.{EachQuiet}
 
--- the cabinet flashes: its last frame is in Flash
+-- the cabinet flashes: its last frame is in flash
 abbrev pub is_flashing : Past → Bool
 is_flashing past = same_mode (last_frame past.moments).mode Flash
 
--- the event may come after these: a download broke no rule together with the tables that it replaces
+-- the event is allowed after these: a download breaks no rule, compared with the tables that it replaces
 abbrev pub IsAdmittedAfter : Tables → List Event → Event → Type 0
 IsAdmittedAfter opening before (Install t) = broken t (past_of opening before).tables (is_flashing (past_of opening before)) ≡ []
 IsAdmittedAfter opening before _ = Unit {0}
 
--- the opening tables are consistent, and each event may come after those before it
+-- the opening tables are consistent, and each event is allowed after those before it
 abbrev pub Admitted : Tables → List Event → Type 0
 Admitted opening events = Consistent opening × EachEvent (IsAdmittedAfter opening) events
 
--- at every tick no two incompatible phases are on, no two of one ring are on, and only enabled ones are; no two incompatible ones
--- walk together, and disabled ones show no signal
+-- at every tick no two conflicting phases are on, at most one phase of a ring is on, and only enabled phases are on. No
+-- two conflicting phases show Walk or Flash, and disabled phases show Dont
 pub record KeepsApart (h : History) : Type 0 where
   pub apart : EachApart (past_at h).moments
   pub one : EachOne (past_at h).moments

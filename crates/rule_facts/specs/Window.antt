@@ -1,5 +1,4 @@
--- What results from the offset under a plan that breaks the rule on the window (FHWA Signal Timing Manual: offset,
--- transition).
+-- What happens to the offset if a plan breaks the rule on the window (FHWA Signal Timing Manual: offset, transition).
 use Rattle.std.specs.Prelude.{ℕ, Bool, List, [], ◌∷◌, replicate}
 use Rattle.sig_types.specs.declared.frame.Mode.{Mode}
 use Rattle.sig_tables.specs.declared.tables.Tables.{Tables}
@@ -15,8 +14,8 @@ use Rattle.plan_facts.specs.Bounds.{offset_bound}
 use Rattle.plan_facts.specs.Meets.{zero_target, offset_in_time}
 use Rattle.plan_facts.specs.Rows.{ticks}
 
--- the coordinated phases have 6 seconds of a cycle of 51, and clear for 5.5 of them, so that the window is 5 ticks; one
--- cycle may wait for 50 ticks (rule 19)
+-- the cycle is 51 seconds. The coordinated phases have 6 seconds, of which 5.5 are clearance, so the window is 5 ticks.
+-- One cycle may wait for 50 ticks (rule 19)
 unfoldable pub short_window : Tables
 short_window = record std8 {
   patterns = record first_pattern { cycle = 51 } ∷ replicate 47 no_pattern;
@@ -24,13 +23,14 @@ short_window = record std8 {
   unit = record std8.unit { mode = 4 };
 }
 
--- a cabinet with these tables that commands the standard pattern and is picked up five seconds ahead of the offset:
--- that many ticks
+-- a cabinet with these tables that commands the standard pattern and is picked up five seconds ahead of the offset,
+-- after n ticks
 abbrev pub five_ahead : Tables → ℕ → History
 five_ahead t n = record { tables = t; command = 1; clock = 400; events = ticks n [] }
 
--- what a history shows of its offset at its last moment: for how long nothing has disturbed it, in how many cycles and ticks the offset was
--- to be met, the counter and its target, and whether the promise of the offset is kept
+-- the coordination at the last moment of a history: the ticks since the last disturbance, the mode, the cycles that the
+-- correction needs and the bound in ticks for being on offset, the counter and its target, and whether this bound is
+-- kept
 pub record Correcting : Type 0 where
   pub quiet : ℕ
   pub mode : Mode
@@ -40,7 +40,7 @@ pub record Correcting : Type 0 where
   pub target : ℕ
   pub in_time : Bool
 
--- the same, of the moments of a history with these tables
+-- the coordination at the last of these moments, with these tables
 abbrev pub correcting : Tables → List Moment → Correcting
 correcting t past = record {
   quiet = quiet_for no_drift past;
@@ -52,6 +52,6 @@ correcting t past = record {
   in_time = offset_in_time no_drift past;
 }
 
--- what a history of the standard pattern shows of it at its last moment
+-- the coordination at the end of a history of the standard pattern
 abbrev pub at_end : History → Correcting
 at_end h = correcting h.tables (past_at h).moments

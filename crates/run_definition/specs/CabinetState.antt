@@ -1,5 +1,5 @@
--- The state that a cabinet has reached between rounds, and what a round adds, by the journal of the round: which pass
--- brought the next item, item by item. Lists of rounds have the newest first.
+-- The state of a cabinet between rounds, and what a round adds to it. The journal of a round lists the pass of each
+-- item, in order. Lists of rounds have the newest first.
 use Rattle.std.specs.Prelude.{ℕ, ◌+◌, ◌≡◌, ◌⊎◌, List, [], ◌∷◌, ◌++◌, Option, Some, None}
 use Rattle.arrayvec.specs.ArrayVec.{ArrayVec}
 use Rattle.scenario_data.specs.Content.{CabinetContent, ScenarioContent}
@@ -12,35 +12,36 @@ use Rattle.cabinet_history.specs.CabinetAnswers.{acts_replies}
 use Rattle.master_rounds.specs.Rounds.{streams_of}
 use Rattle.runnable.specs.Cabinets.{opening_history}
 
--- what a cabinet has reached: its cabinet history, and its answers round by round; those of a round are in order
+-- the state of a cabinet between rounds: its content, its cabinet history, and its answers, round by round. The
+-- answers of one round are in order
 pub record CabinetState : Type 0 where
   pub cabinet : CabinetContent
   pub cabinet_history : CabinetHistory
   pub answered : List (List Answer)
 
--- a cabinet before any round
+-- the state of a cabinet before any round
 abbrev pub opened_cabinet_state : ScenarioContent → CabinetContent → CabinetState
 opened_cabinet_state s c = record { cabinet = c; cabinet_history = opened s.community (opening_history c); answered = [] }
 
--- the streams of the round to come: inputs, the frames of the three streams of messages, and ticks
+-- the streams of the next round: inputs, three streams of messages, and ticks
 abbrev pub coming_streams : ScenarioContent → ℕ → CabinetState → List (List Item)
 coming_streams s cab t = streams_of s cab t.cabinet t.answered
 
--- what the passes of a journal bring in the round to come
+-- the acts of the next round, in the order of its journal
 abbrev pub round_acts : ScenarioContent → ℕ → CabinetState → List ℕ → List Act
 round_acts s cab t journal = acts_of (coming_streams s cab t) journal
 
--- octets that a pass is answered with; silence is not an answer
+-- the answer that a reply gives; none if the cabinet didn't reply
 abbrev pub answer_of : ℕ → Option (ArrayVec ℕ) → List Answer
 answer_of pass None = []
 answer_of pass (Some octets) = record { pass = pass; octets = octets.items } ∷ []
 
--- the replies that are not silence
+-- the answers in these replies
 abbrev pub answers_in : List Reply → List Answer
 answers_in [] = []
 answers_in (r ∷ replies) = answer_of r.pass r.text ++ answers_in replies
 
--- what the cabinet has reached after a round with this journal
+-- the state of the cabinet after a round with this journal
 abbrev pub next_cabinet_state : ScenarioContent → ℕ → CabinetState → List ℕ → CabinetState
 next_cabinet_state s cab t journal = record {
   cabinet = t.cabinet;
@@ -48,22 +49,22 @@ next_cabinet_state s cab t journal = record {
   answered = answers_in (acts_replies t.cabinet_history (round_acts s cab t journal)) ∷ t.answered;
 }
 
--- all cabinets before any round
+-- the states of all cabinets before any round
 abbrev pub opened_cabinet_states : ScenarioContent → List CabinetContent → List CabinetState
 opened_cabinet_states s [] = []
 opened_cabinet_states s (c ∷ cabinets) = opened_cabinet_state s c ∷ opened_cabinet_states s cabinets
 
--- what each cabinet, counted from a first number, has reached after a round with these journals
+-- the state of each cabinet after a round with these journals; cabinets are numbered from `first`
 abbrev pub each_cabinet_state : ScenarioContent → ℕ → List CabinetState → List (List ℕ) → List CabinetState
 each_cabinet_state s first (t ∷ ts) (journal ∷ journals) = next_cabinet_state s first t journal ∷ each_cabinet_state s (first + 1) ts journals
 each_cabinet_state s first _ _ = []
 
--- and after rounds with these journals, the first round first
+-- the state of each cabinet after several rounds with these journals, the oldest round first
 abbrev pub cabinet_states_after : ScenarioContent → List CabinetState → List (List (List ℕ)) → List CabinetState
 cabinet_states_after s ts [] = ts
 cabinet_states_after s ts (journals ∷ later) = cabinet_states_after s (each_cabinet_state s 1 ts journals) later
 
--- the cabinet with this number, among those from a first number on, has reached this
+-- the cabinet with number `cab` has the state `t`; the list has the states of the cabinets from number `first` on
 abbrev pub HasComeTo : ℕ → CabinetState → ℕ → List CabinetState → Type 0
 HasComeTo cab t first [] = ⊥
 HasComeTo cab t first (u ∷ ts) = ((cab ≡ first) × (t ≡ u)) ⊎ HasComeTo cab t (first + 1) ts

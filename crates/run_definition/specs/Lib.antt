@@ -3,3 +3,8 @@ pub mod Lines
 pub mod Orders
 pub mod Safe
 pub mod Smallest
+pub mod Session
+pub mod SessionAnswers
+pub mod SessionRecord
+pub mod SessionDialogue
+pub mod SessionLaws

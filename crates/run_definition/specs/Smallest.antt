@@ -8,7 +8,7 @@ use Rattle.trace_text.specs.declared.lines.Line.TheVariants.{S, F, R, J, Z}
 use Rattle.scenario_data.specs.declared.scenario.Base.TheVariants.{Std8}
 use Rattle.scenario_data.specs.Content.{ScenarioContent}
 
--- the cabinet has the standard tables; nothing is sent to it
+-- the scenario: its cabinet has the standard tables, and nothing is sent to it
 unfoldable pub smallest : ScenarioContent
 smallest = record {
   version = 1;
@@ -25,11 +25,11 @@ smallest = record {
   compact = [];
 }
 
--- its only journal: the tick
+-- its only journal, with one tick
 abbrev pub one_tick : List (List (List ℕ))
 one_tick = ((4 ∷ []) ∷ []) ∷ []
 
--- its lines: the cabinet starts in all red, and a tick later shows the same
+-- its lines: the cabinet starts in all red, and shows the same one tick later
 abbrev pub smallest_lines : List Line
 smallest_lines =
     S [] ∷ F 1 0 (replicate 16 Red) (replicate 16 Dont) Start 0 0 0 ∷ R 1 ∷ J 1 ((4, 1) ∷ []) ∷ Z 1 ∷ []

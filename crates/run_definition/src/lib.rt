@@ -1,7 +1,10 @@
 //! What a run writes, for any journals: the journal of each round and cabinet says which pass brought the next item,
 //! item by item, and everything else follows from the scenario. The laws hold for every order, including the serial
 //! one. The functions have no bodies: their contracts are the laws.
+//! The module `sessions` has the laws of a session: it is a run of the scenario that results.
 #![tactic(auto)]
+
+mod sessions;
 
 ghost use Rattle.std.specs.Prelude.{◌≡◌, ◌+◌, ◌++◌, ℕ, List, length};
 ghost use Rattle.scenario_data.specs.Content.{ScenarioContent};
@@ -16,6 +19,7 @@ use cabinet_laws::{
     cabinet_histories_are_safe, cabinet_histories_keep_to_plan,
     cabinet_histories_meet_coordination, downloads_are_whole, downloads_end_as_judged,
 };
+pub use sessions::{answers_need_no_more, sessions_are_runs};
 
 /// The smallest run: one cabinet with the standard tables and one tick shows all red throughout.
 pub fn smallest_run()

@@ -1,4 +1,4 @@
--- Whatever of a scenario goes into a frame is octets, so that every frame of its run is.
+-- Everything in a scenario that goes into a message consists of octets, so that every message of its run does.
 use Rattle.std.specs.Prelude.{◌≤◌, ◌<◌, List, length}
 use Rattle.std.specs.List.{AllByRecursion}
 use Rattle.sig_tables.specs.declared.cells.Cell.{Cell}
@@ -9,16 +9,17 @@ use Rattle.scenario_data.specs.declared.scenario.PriorityAct.{PriorityAct}
 use Rattle.scenario_data.specs.declared.scenario.PriorityAct.TheVariants.{Request as AskRequest, Cancel}
 use Rattle.scenario_data.specs.Content.{ScenarioContent}
 
--- what is put into a cell: a list there is of octets
+-- if the content of a cell is a list, it is a list of octets
 abbrev pub HoldsOctets : Content → Type 0
 HoldsOctets (Number n) = Unit {0}
 HoldsOctets (Octets octets) = AreOctets octets
 
--- so is what is put into each of these cells
+-- each of these cells has a number or a list of octets as its content
 abbrev pub PutOctets : List (Cell × Content) → Type 0
 PutOctets cells = AllByRecursion (λ put. HoldsOctets put.1) cells
 
--- the fields of a priority request take an octet each, its times two
+-- the number, the class, the level and the phase of a priority request fit into one octet each, and its two times
+-- into two octets each
 pub record IsShortRequest (r : Request) : Type 0 where
   pub number : r.number < 256
   pub class : r.class < 256
@@ -27,12 +28,13 @@ pub record IsShortRequest (r : Request) : Type 0 where
   pub arrival : r.arrival < 65536
   pub departure : r.departure < 65536
 
--- what a vehicle with priority asks
+-- if the act is a priority request, its fields fit into their octets
 abbrev pub IsShortAct : PriorityAct → Type 0
 IsShortAct (AskRequest r) = IsShortRequest r
 IsShortAct (Cancel number) = Unit {0}
 
--- the community, what is put into cells, requests, frames, and what a fault turns of an octet
+-- everything in the scenario that goes into messages consists of octets: its community, the contents of cells, its
+-- priority requests, its own messages, and the bits that a fault inverts
 pub record OnlyOctets (s : ScenarioContent) : Type 0 where
   pub community : AreOctets s.community
   pub short : length s.community ≤ 32

@@ -1,4 +1,5 @@
--- What every scenario has that was read without a fault: its numbers in range, its tables consistent, its loads of cells that there are.
+-- What is true of each scenario that was read without a fault: its numbers are in range, its tables are consistent,
+-- and the cells of its loads exist.
 use Rattle.std.specs.Prelude.{ℕ, ◌*◌, ◌≤◌, ◌<◌, ◌≡◌, true, List, [], ◌∷◌, length}
 use Rattle.std.specs.List.{AllByRecursion}
 use Rattle.sig_types.specs.declared.frame.Field.{Field}
@@ -13,42 +14,42 @@ use Rattle.scenario_data.specs.Opening.{opening_tables}
 use Rattle.master_load.specs.Downloads.{AreLoads}
 use Rattle.runnable.specs.Octets.{OnlyOctets}
 
--- a cabinet opens with consistent tables, its clock is a tick of the day, and drifts slowly or not at all; any pattern may be in
--- command
+-- the cabinet can start: its tables are consistent, its clock is a tick of the day, and the clock drifts slowly or
+-- not at all. Every pattern may be commanded at the start
 pub record CanOpen (c : CabinetContent) : Type 0 where
   pub consistent : Consistent (opening_tables c)
   pub of_day : c.clock < 864000
   pub slow : IsSlow (record { gain = c.gain; lose = c.lose })
 
--- each of them can open
+-- each of these cabinets can start
 abbrev pub AllOpen : List CabinetContent → Type 0
 AllOpen [] = Unit {0}
 AllOpen (c ∷ cabinets) = CanOpen c × AllOpen cabinets
 
--- the round and the cabinet of an input are there
+-- the round and the cabinet of the input exist
 pub record InReach (rounds cabinets : ℕ) (i : Input) : Type 0 where
   pub some_round : 1 ≤ i.round
   pub in_rounds : i.round ≤ rounds
   pub some_cabinet : 1 ≤ i.cabinet
   pub in_cabinets : i.cabinet ≤ cabinets
 
--- an input has its place: a detector or a button that of a phase, 1 to 16, a preempt's that of a preempt, 1 to 8
+-- the input exists: a detector or a push button has a phase from 1 to 16, and a preempt is from 1 to 8
 abbrev pub HasPlace : Field → Type 0
 HasPlace (Veh p on) = is_phase p ≡ true
 HasPlace (Button p) = is_phase p ≡ true
 HasPlace (PreemptInput i on) = (1 ≤ i) × (i ≤ 8)
 
--- each input has its place
+-- each of these inputs exists
 abbrev pub AllHeard : List Input → Type 0
 AllHeard [] = Unit {0}
 AllHeard (i ∷ inputs) = HasPlace i.field × AllHeard inputs
 
--- each input reaches a round that is run and a cabinet that there is
+-- the round and the cabinet of each input exist
 abbrev pub AllInReach : ℕ → ℕ → List Input → Type 0
 AllInReach rounds cabinets [] = Unit {0}
 AllInReach rounds cabinets (i ∷ inputs) = InReach rounds cabinets i × AllInReach rounds cabinets inputs
 
--- a scenario that can be run
+-- the scenario can be run
 pub record Runnable (s : ScenarioContent) : Type 0 where
   pub some_rounds : 1 ≤ s.rounds
   pub few_rounds : s.rounds ≤ 86400

@@ -1,4 +1,4 @@
--- Where the scenario of a text is: it is the text's value, or is at `scenario` of the object that this is.
+-- Where the scenario of a text is: it is the value of the text, or it is at the name `scenario` of an object.
 use Rattle.std.specs.Prelude.{codes, unwrap_or, None}
 use Rattle.serde_json.specs.Data.{Data, null}
 use Rattle.serde_json.specs.Find.{get}
@@ -6,7 +6,7 @@ use Rattle.scenario_read.specs.Fields.{either}
 pub use Rattle.scenario_cut.specs.declared.around.Around.{Around}
 pub use Rattle.scenario_cut.specs.declared.around.Around.TheVariants.{Nothing, Object}
 
--- the scenario of a text's value; null where that is not an object or has none
+-- the scenario in the value of a text; null if the value isn't an object or has no scenario
 abbrev pub scenario_in : Around → Data → Data
 scenario_in Nothing d = d
 scenario_in Object d = unwrap_or (either (get (codes "scenario") d) None) null

@@ -1,4 +1,4 @@
--- What the first token of a value says about it.
+-- What the first token of a value shows about the value.
 use Rattle.std.specs.Prelude.{ℕ, ◌≡◌, List}
 use Rattle.std.specs.Borrow.{Bor}
 use Rattle.json.specs.declared.token.Token.{Token}
@@ -6,17 +6,17 @@ use Rattle.json.specs.declared.token.Token.TheVariants.{BeginArray, BeginObject,
 use Rattle.serde_json.specs.Data.{Data, null, boolean, number, string, array, object}
 use Rattle.scenario_cut.specs.Judging.{IsNoList}
 
--- a value is not a number
+-- the value is not a number
 abbrev pub IsNoNumber : Data → Type 0
 IsNoNumber (number n) = ⊥
 IsNoNumber _ = Unit {0}
 
--- a value is not an object
+-- the value is not an object
 abbrev pub IsNoObject : Data → Type 0
 IsNoObject (object ms) = ⊥
 IsNoObject _ = Unit {0}
 
--- what the token that a value begins with says about it
+-- the first token of the value shows whether it is a number, a list or an object
 pub record BeginsWith (token : Token) (d : Data) : Type 0 where
   pub no_number : ((text : Bor (List ℕ)) → token ≡ Number text → ⊥) → IsNoNumber d
   pub no_list : (token ≡ BeginArray → ⊥) → IsNoList d

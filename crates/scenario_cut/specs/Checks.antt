@@ -1,4 +1,4 @@
--- The faults of a scenario, as they are looked for where its lists are not kept.
+-- The faults of a scenario, in the order in which they are checked if its lists aren't stored.
 use Rattle.std.specs.Prelude.{◌≡◌, ◌*◌, List, [], ◌∷◌, ◌++◌, length}
 use Rattle.serde_json.specs.Data.{Data}
 use Rattle.scenario_data.specs.Causes.{Cause}
@@ -15,11 +15,11 @@ use Rattle.scenario_cut.specs.declared.judge.Extent.{Extent}
 abbrev pub head_fields : List Field
 head_fields = version ∷ rounds ∷ ticks ∷ community ∷ []
 
--- the faults of names that aren't known, and of these fields
+-- the faults of unknown names and of these fields
 abbrev pub head_faults : Data → List Cause
 head_faults d = names_faults (names (known_fields (scenario_shape 1 1 1) d)) [] d ++ fields_faults [] d head_fields
 
--- the numbers that are there
+-- the version, the number of rounds and the number of ticks of a scenario
 abbrev pub head_of : Data → Head
 head_of d = record { version = version_number d; rounds = round_count d; ticks = tick_count d }
 
@@ -27,21 +27,21 @@ head_of d = record { version = version_number d; rounds = round_count d; ticks =
 abbrev pub extent_of : Data → Extent
 extent_of d = record { version = version_number d; rounds = round_count d; cabinets = cabinet_count d }
 
--- a scenario has no fault, and this is its extent
+-- the scenario has no fault, and this is its extent
 pub record IsClean (extent : Extent) (d : Data) : Type 0 where
   pub clean : faults d ≡ []
   pub is : extent ≡ extent_of d
 
--- the cabinets in a scenario of these numbers
+-- the cabinets of a scenario with these numbers
 abbrev pub cabinets_at : Head → Data → List CabinetContent
 cabinets_at h d = list_in (cabinet_of h.version) (held (cabinets h.version) d)
 
--- the extent of a scenario of these numbers
+-- the extent of a scenario with these numbers
 abbrev pub extent_at : Head → Data → Extent
 extent_at h d = record { version = h.version; rounds = h.rounds; cabinets = length (cabinets_at h d) }
 
--- the faults after those fields, where the numbers are these and the master is read from another value: of the
--- cabinets, the master, what happens, the number of ticks, and the tables
+-- the faults after these fields, for these numbers, if the master is read from `setup`: of the cabinets, the master,
+-- the lists of the rounds, the number of ticks, and the tables
 abbrev pub behind_faults : Head → Data → Data → List Cause
 behind_faults h d setup =
     field_faults [] d (cabinets h.version)

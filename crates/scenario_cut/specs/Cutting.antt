@@ -1,9 +1,10 @@
--- What is kept of a scenario's value whose first fault is asked, and of an object around a scenario. null represents an
--- array or an object where only a number, a text or a word may be, since it is at fault there whatever it holds, and in
--- Setup and Outer for a list of which nothing is asked: all but the master's schedule, the bank, and the rules by which
--- patterns follow traffic; and for what happens, and for pulses, after one that lacks a name which each must have. Of
--- cabinets, entries, sections, steps, cells and their parts only that many are kept. Of the names that no object there
--- may have only the first is kept, with null: it is at fault before all that is in the object.
+-- What is stored of a scenario's value, or of an object around a scenario, when only its first fault is needed. null
+-- represents an array or an object where only a number, a text or a word is allowed, because it is at fault there
+-- with any content. In Setup and Outer, null represents a list that isn't needed: all lists except the master's
+-- schedule, the bank, and the rules by which patterns follow the traffic. If an item of the rounds or a pulse lacks a
+-- required name, null represents the items after it. Only a limited number of cabinets, entries, sections, steps,
+-- cells and parts of cells is stored. If an object has names that no object may have there, only the first of them is
+-- stored, with null: it is at fault before everything else in the object.
 use Rattle.std.specs.Prelude.{ℕ, zero, suc, ◌&&◌, ◌||◌, Bool, true, false, if◌then◌else◌, List, [], ◌∷◌, ◌++◌, codes, bytes_eq, is_some}
 use Rattle.serde_json.specs.Data.{Data, null, boolean, number, string, array, object, Items, no_items, item, Members, no_members, member}
 use Rattle.serde_json.specs.Find.{get}
@@ -11,7 +12,7 @@ use Rattle.scenario_read.specs.Kinds.{is_among}
 pub use Rattle.scenario_cut.specs.declared.form.Form.{Form}
 pub use Rattle.scenario_cut.specs.declared.form.Form.TheVariants.{Street, Field, Outer, Whole, Setup, Cabinets, Cabinet, Events, Event, Pulses, Pulse, Master, Entries, Entry, Respond, Sections, Section, Steps, Step, Rows, Row, Part, Times, Bare}
 
--- an array may be there
+-- an array is allowed here
 abbrev pub opens_array : Form → Bool
 opens_array Cabinets = true
 opens_array Events = true
@@ -24,7 +25,7 @@ opens_array Row = true
 opens_array Times = true
 opens_array _ = false
 
--- an object may be there
+-- an object is allowed here
 abbrev pub opens_object : Form → Bool
 opens_object Street = true
 opens_object Field = true
@@ -41,7 +42,7 @@ opens_object Section = true
 opens_object Step = true
 opens_object _ = false
 
--- the place of each item
+-- the form of each item
 abbrev pub item_form : Form → Form
 item_form Cabinets = Cabinet
 item_form Events = Event
@@ -53,11 +54,11 @@ item_form Rows = Row
 item_form Row = Part
 item_form _ = Bare
 
--- the name of a list of what happens
+-- the name of a list of items that happen in the rounds
 abbrev pub is_event_list : List ℕ → Bool
 is_event_list name = bytes_eq name (codes "inputs") || (bytes_eq name (codes "loads") || (bytes_eq name (codes "priority") || (bytes_eq name (codes "frames") || bytes_eq name (codes "faults"))))
 
--- the place of the member of this name
+-- the form of the member with this name
 abbrev pub member_form : Form → List ℕ → Form
 member_form Street name =
     if bytes_eq name (codes "scenario") then Whole else
@@ -88,14 +89,15 @@ abbrev pub scenario_names : List (List ℕ)
 scenario_names =
     codes "version" ∷ codes "rounds" ∷ codes "ticks" ∷ codes "community" ∷ codes "cabinets" ∷ codes "master" ∷ codes "inputs" ∷ codes "loads" ∷ codes "priority" ∷ codes "frames" ∷ codes "faults" ∷ []
 
--- the names of all that happens: of an input or a load, and the further ones of a request or its cancel, and of a frame or a fault of the
--- link
+-- the names of an input or a load
 abbrev pub input_names : List (List ℕ)
 input_names = codes "round" ∷ codes "cabinet" ∷ codes "veh" ∷ codes "on" ∷ codes "ped" ∷ codes "preempt" ∷ codes "cells" ∷ []
 
+-- the further names of a priority request or its cancel
 abbrev pub request_names : List (List ℕ)
 request_names = codes "cancel" ∷ codes "number" ∷ codes "class" ∷ codes "level" ∷ codes "phase" ∷ codes "arrival" ∷ codes "departure" ∷ []
 
+-- the further names of a message or a fault of the link
 abbrev pub link_names : List (List ℕ)
 link_names = codes "stream" ∷ codes "hex" ∷ codes "way" ∷ codes "index" ∷ codes "kind" ∷ codes "by" ∷ codes "octet" ∷ []
 
@@ -104,7 +106,7 @@ abbrev pub entry_names : List (List ℕ)
 entry_names =
     codes "second" ∷ codes "section" ∷ codes "pattern" ∷ codes "cabinet" ∷ codes "detector" ∷ codes "phase" ∷ codes "delay" ∷ codes "extend" ∷ codes "no_activity" ∷ codes "max_presence" ∷ codes "erratic" ∷ []
 
--- the names that an object there may have, whichever of the objects that is allowed there it is
+-- the names that an object may have here, for all kinds of objects that are allowed here
 abbrev pub names_at : Form → List (List ℕ)
 names_at Street = codes "scenario" ∷ codes "section" ∷ codes "pattern" ∷ codes "travel" ∷ []
 names_at Field = codes "scenario" ∷ codes "bank" ∷ codes "pulses" ∷ codes "respond" ∷ []
@@ -121,25 +123,25 @@ names_at Section = codes "section" ∷ codes "base" ∷ codes "steps" ∷ []
 names_at Step = codes "up" ∷ codes "down" ∷ codes "pattern" ∷ []
 names_at _ = []
 
--- the members of these names
+-- the members with these names
 abbrev pub only : List (List ℕ) → Members → Members
 only known no_members = no_members
 only known (member name d ms) = if is_among known name then member name d (only known ms) else only known ms
 
--- these, and the first of the others, with null
+-- the members with these names, and the first of the other members, with null
 abbrev pub few : List (List ℕ) → Members → Members
 few known no_members = no_members
 few known (member name d ms) = if is_among known name then member name d (few known ms) else member name null (only known ms)
 
--- what happens is of a round and a cabinet, or is at fault
+-- the item has a round and a cabinet; otherwise it is at fault
 abbrev pub is_of_a_round : Data → Bool
 is_of_a_round d = is_some (get (codes "round") d) && is_some (get (codes "cabinet") d)
 
--- a pulse is of a detector too, and puts it on or off, or is at fault
+-- the pulse also has a detector and a state (on or off); otherwise it is at fault
 abbrev pub is_a_pulse : Data → Bool
 is_a_pulse d = is_of_a_round d && (is_some (get (codes "detector") d) && is_some (get (codes "on") d))
 
--- how many items of this kind may still be kept: at the beginning, and after an item; 1 represents any number
+-- how many items of this form may be stored at the beginning; 1 represents any number
 abbrev pub room : Form → ℕ
 room Cabinet = 65
 room Entry = 1001
@@ -149,6 +151,7 @@ room Row = 4097
 room Part = 6
 room _ = 1
 
+-- how many items of this form may still be stored after this item
 abbrev pub room_behind : Form → ℕ → Data → ℕ
 room_behind Cabinet n d = n
 room_behind Entry n d = n
@@ -160,7 +163,7 @@ room_behind Event n d = if is_of_a_round d then suc n else 0
 room_behind Pulse n d = if is_a_pulse d then suc n else 0
 room_behind _ n d = suc n
 
--- items for which there is no room are dropped: that many are kept that their list is at fault for its number of items
+-- items beyond this number are dropped. Enough of them are stored that their list is at fault for its number of items
 abbrev pub drops : Form → Bool
 drops Cabinet = true
 drops Entry = true

@@ -1,5 +1,5 @@
--- The lists that are looked for in one skip a scenario's text: the cabinets, or those of what happens; and what is
--- known of each.
+-- The lists of a scenario that one reading of its text searches for, and what is known about each: either the
+-- cabinets, or the lists of the rounds.
 use Rattle.std.specs.Prelude.{ℕ, ◌≡◌, ◌||◌, Bool, true, false, if◌then◌else◌, List, Option, Some, None, is_some, bytes_eq}
 use Rattle.serde_json.specs.Data.{Data}
 use Rattle.serde_json.specs.Find.{get}
@@ -12,7 +12,7 @@ use Rattle.scenario_cut.specs.declared.named.Group.TheVariants.{Cabinets as OfCa
 use Rattle.scenario_cut.specs.declared.named.Known.{Known}
 use Rattle.scenario_cut.specs.declared.named.Search.{Search}
 
--- a list is one of those
+-- the list is in this group
 abbrev pub is_in : Group → Listing → Bool
 is_in OfCabinets Cabinets = true
 is_in OfCabinets Inputs = false
@@ -27,24 +27,25 @@ is_in OfEvents Priority = true
 is_in OfEvents Frames = true
 is_in OfEvents Faults = true
 
--- a list is in a scenario, and one of those does
+-- the scenario has this list
 abbrev pub stands : Listing → Data → Bool
 stands l d = is_some (get (name_of l) d)
 
+-- the scenario has a list of this group
 abbrev pub any_stands : Group → Data → Bool
 any_stands OfCabinets d = stands Cabinets d
 any_stands OfEvents d = stands Inputs d || (stands Loads d || (stands Priority d || (stands Frames d || stands Faults d)))
 
--- this list where the name is its own, else that
+-- this list if it has this name, otherwise the other
 abbrev pub if_named : List ℕ → Listing → Option Listing → Option Listing
 if_named name l other = if bytes_eq name (name_of l) then Some l else other
 
--- the list of this name, if it is one of those
+-- the list of this group with this name, if there is one
 abbrev pub list_named : Group → List ℕ → Option Listing
 list_named OfCabinets name = if_named name Cabinets None
 list_named OfEvents name = if_named name Inputs (if_named name Loads (if_named name Priority (if_named name Frames (if_named name Faults None))))
 
--- what is known of a list
+-- what is known about a list
 abbrev pub told_of : Listing → Known → ListVerdict
 told_of Cabinets known = known.cabinets
 told_of Inputs known = known.inputs
@@ -53,7 +54,7 @@ told_of Priority known = known.priority
 told_of Frames known = known.frames
 told_of Faults known = known.faults
 
--- the same, where this becomes known of one list
+-- what is known, with this verdict on one list
 abbrev pub with_told : Listing → ListVerdict → Known → Known
 with_told l told known = record {
   cabinets = if bytes_eq (name_of l) (name_of Cabinets) then told else known.cabinets;
@@ -64,6 +65,6 @@ with_told l told known = record {
   faults = if bytes_eq (name_of l) (name_of Faults) then told else known.faults;
 }
 
--- the lists that are looked for were judged in a scenario
+-- the lists of the group were checked in a scenario
 abbrev pub Knows : Search → Known → Data → Type 0
 Knows search known d = (l : Listing) → is_in search.group l ≡ true → TellsIn l search.extent (told_of l known) d

@@ -1,9 +1,9 @@
--- The inputs of a scenario, by rounds and cabinets.
+-- The inputs of a scenario, by round and cabinet.
 use Rattle.std.specs.Prelude.{ℕ, ◌==◌, ◌&&◌, if◌then◌else◌, List, [], ◌∷◌}
 use Rattle.sig_types.specs.declared.frame.Field.{Field}
 use Rattle.scenario_data.specs.declared.scenario.Input.{Input}
 
--- the inputs of a round at a cabinet, in the order of the list
+-- the inputs of a cabinet in a round, in the order of the list
 abbrev pub inputs_of : ℕ → ℕ → List Input → List Field
 inputs_of round cab [] = []
 inputs_of round cab (i ∷ inputs) =

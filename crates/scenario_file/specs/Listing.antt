@@ -1,4 +1,4 @@
--- What is known of the items of a list while the version and the numbers of rounds and of cabinets are not yet known.
+-- What is known about the items of a list before the version and the numbers of rounds and cabinets are known.
 use Rattle.std.specs.Prelude.{◌≡◌, ◌≤◌, ◌||◌, ℕ, Bool, true, false, if◌then◌else◌, List, [], ◌∷◌, ◌++◌, bytes_eq, codes, is_some, length, map}
 use Rattle.serde_json.specs.Data.{Data, Items, no_items, item}
 use Rattle.serde_json.specs.Find.{get}
@@ -19,14 +19,16 @@ use Rattle.scenario_file.specs.declared.found.Reach.{Reach}
 use Rattle.scenario_file.specs.declared.listed.Listed.{Listed}
 use Rattle.scenario_file.specs.Growing.{written, inner_text, follows}
 
--- where a list at the top is, and the schedule of the master
+-- the path of a list at the top
 abbrev pub list_path : List ℕ → List Step
 list_path name = Named name ∷ []
 
+-- the path of the master's schedule
 abbrev pub schedule_path : List Step
 schedule_path = Named (codes "master") ∷ Named (codes "schedule") ∷ []
 
--- cabinets of the version that has the most names, and items of the most rounds and cabinets that a scenario has
+-- the kind of items with the widest limits: for cabinets those of version 2, for other items the maximum number of
+-- rounds and of cabinets
 abbrev pub any_cabinet : Kind
 any_cabinet = cabinet 2
 
@@ -48,18 +50,20 @@ any_fault = object_of (fault_shape 86400 64)
 abbrev pub any_entry : Kind
 any_entry = object_of entry_shape
 
--- the items of a list at this path are of the kind, at most that many, and these say the same
+-- the items of the list at this path have no fault of this kind, they are at most `most`, and `found` is what they
+-- describe
 pub record ListTold {A : Type 0} (path : List Step) (kind : Kind) (says : Data → A) (most : ℕ) (found : List A) (ds : Items) : Type 0 where
   pub causes : each kind path 0 ds ≡ []
   pub said : found ≡ each_of says ds
   pub few : length found ≤ most
 
--- the items are loads, these say the same, and these are their cabinets
+-- the items of the list of loads have no fault, `found` is what they describe, and `cabinets` has the cabinet of each
 pub record ToldLoads (found : List LoadContent) (cabinets : List ℕ) (ds : Items) : Type 0 where
   pub causes : each_behind any_load (load_cabinet 64) (list_path (codes "loads")) 0 [] ds ≡ []
   pub said : found ≡ each_of (load_of 86400 64) ds
   pub whose : cabinets ≡ each_of (load_cabinet 64) ds
 
+-- what was found for a list is what its items describe, and the items have no fault with the widest limits
 abbrev pub ToldCabinets : List CabinetContent → Items → Type 0
 ToldCabinets = ListTold (list_path (codes "cabinets")) any_cabinet (cabinet_of 2) 64
 
@@ -78,7 +82,7 @@ ToldFaults = ListTold (list_path (codes "faults")) any_fault (fault_of 86400 64)
 abbrev pub ToldEntries : List Entry → Items → Type 0
 ToldEntries = ListTold schedule_path any_entry entry_of 1000
 
--- what was found says what the items say, and these are without fault where the version has their names and there are rounds and cabinets enough
+-- what was found is what the items describe. With the widest limits the items have no fault
 abbrev pub Holds : Found → Items → Type 0
 Holds (Cabinets found) ds = ToldCabinets (map cabinet_content found.items) ds
 Holds (Inputs found) ds = ToldInputs found.items ds
@@ -98,46 +102,48 @@ name_of (Frames found) = codes "frames"
 name_of (Faults found) = codes "faults"
 name_of (Schedule found) = codes "schedule"
 
--- a value is one more item after those of the list: it is of the kind, and says this
+-- one more value was read after the items of the list: it has no fault of this kind, and what it describes was added
 pub record Adds {A : Type 0} (path : List Step) (kind : Kind) (says : Data → A) (most : ℕ) (old new : List A) (d : Data) : Type 0 where
   pub causes : kind (then_item path (length old)) d ≡ []
   pub more : new ≡ old ++ says d ∷ []
   pub few : length new ≤ most
 
--- the version that a cabinet asks for: the second, where it names how its clock drifts
+-- the version that a cabinet requires: 2 if it has a drift of its clock, otherwise 1
 abbrev pub asked_version : Data → ℕ
 asked_version d = if is_some (get gain.name d) || is_some (get lose.name d) then 2 else 1
 
--- an item is of a round and a cabinet up to these
+-- the round and the cabinet of an item are at most these
 abbrev pub InRounds : ℕ → ℕ → Data → Type 0
 InRounds rounds cabinets d = (number_at (round 86400) d ≤ rounds) × (number_at (cabinet_number 64) d ≤ cabinets)
 
--- what an item asks for lies within: the version of a cabinet, the round and the cabinet of any other item
+-- an item is within these limits: a cabinet by the version that it requires, every other item by its round and its
+-- cabinet
 abbrev pub AsksWithin : Bool → Reach → Data → Type 0
 AsksWithin true reach d = asked_version d ≤ reach.version
 AsksWithin false reach d = InRounds reach.round reach.cabinet d
 
--- an entry of a schedule asks for nothing
+-- the condition holds, or the list is the schedule, whose entries have no limit
 abbrev pub UnlessEntry : Bool → Type 0 → Type 0
 UnlessEntry true P = Unit {0}
 UnlessEntry false P = P
 
--- the same of an item of the list at a name
+-- an item of the list with this name is within these limits
 abbrev pub Within : List ℕ → Reach → Data → Type 0
 Within name reach d = UnlessEntry (bytes_eq name (codes "schedule")) (AsksWithin (bytes_eq name (codes "cabinets")) reach d)
 
--- each item is so
+-- the condition holds for each item
 abbrev pub AllOf : (Data → Type 0) → Items → Type 0
 AllOf P no_items = Unit {0}
 AllOf P (item d ds) = P d × AllOf P ds
 
--- what is asked for goes at least as far
+-- each of the three limits is unchanged or higher
 pub record ReachGrows (old new : Reach) : Type 0 where
   pub round : old.round ≤ new.round
   pub cabinet : old.cabinet ≤ new.cabinet
   pub version : old.version ≤ new.version
 
--- the items of a list: what they say, the text between the brackets, and what they ask for at the most
+-- what is known of a list with these items: what they describe, the text between its brackets, and limits that all of
+-- them keep
 pub record Lists (listed : Listed) (ds : Items) : Type 0 where
   pub holds : Holds listed.found ds
   pub text : written listed.text ≡ inner_text false ds

@@ -1,4 +1,4 @@
--- The text of a scenario in parts, and what a scenario becomes with more inputs or with another schedule.
+-- The text of a scenario in parts, and a scenario with more inputs or with a different schedule.
 use Rattle.std.specs.Prelude.{ℕ, ◌≡◌, ◌≤◌, false, List, [], codes, Some, None}
 use Rattle.json.specs.Json.{Json}
 use Rattle.serde_json.specs.Data.{Data, null, boolean, number, string, array, object, depth, Items, no_items, put}
@@ -21,7 +21,7 @@ use Rattle.scenario_file.specs.declared.source.ScenarioText.{ScenarioText}
 use Rattle.scenario_file.specs.declared.source.Source.{Source}
 use Rattle.scenario_file.specs.declared.top.Whole.{Whole}
 
--- an object with a value at a name, in place of what is there; anything else as it is
+-- the object with this value at a name, in place of its own; any other value is unchanged
 abbrev pub with_member : List ℕ → Data → Data → Data
 with_member name d null = null
 with_member name d (boolean b) = boolean b
@@ -30,7 +30,7 @@ with_member name d (string s) = string s
 with_member name d (array ds) = array ds
 with_member name d (object ms) = object (put name d ms)
 
--- the inputs of a scenario, and more after them
+-- the inputs of a scenario, followed by more inputs
 abbrev pub inputs_and : Items → Data → Data
 inputs_and more d = array (both (items_in (held (inputs (round_count d) (cabinet_count d)) d)) more)
 
@@ -46,7 +46,7 @@ master_and schedule d = with_member (codes "schedule") schedule (held master d)
 abbrev pub with_schedule : Items → Data → Data
 with_schedule ds d = with_member (codes "master") (master_and (array ds) d) d
 
--- the parts are those of the value's text
+-- the parts are those of the text of this value
 pub record Writes (text : ScenarioText) (d : Data) : Type 0 where
   pub rows : List ℕ → Items
   pub whole : d ≡ object (with_lists rows (members_view text.frame.entries))
@@ -56,7 +56,7 @@ pub record Writes (text : ScenarioText) (d : Data) : Type 0 where
   pub some : text.some ≡ follows false (rows (codes "inputs"))
   pub absent : get_member (codes "inputs") (members_view text.frame.entries) ≡ None → rows (codes "inputs") ≡ no_items
 
--- the frame and the lists are those of a value that was read
+-- the frame and the lists are those of this value, which was read
 pub record IsRead (whole : Whole) (d : Data) : Type 0 where
   pub rows : List ℕ → Items
   pub is : d ≡ object (with_lists rows (members_view whole.frame.entries))
@@ -66,7 +66,7 @@ pub record IsRead (whole : Whole) (d : Data) : Type 0 where
   pub from : of_json tree ≡ Some d
   pub nests : depth d ≤ max_depth
 
--- the value is a scenario, which is this one, and these are the parts of its text
+-- the value is a scenario without a fault. `source` has the content of this scenario and the parts of its text
 pub record IsSource (source : Source) (d : Data) : Type 0 where
   pub faultless : faults d ≡ []
   pub said : scenario_content source.scenario ≡ scenario_of d

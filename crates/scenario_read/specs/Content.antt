@@ -1,4 +1,4 @@
--- The scenario of a value: at each name what is there, or else the default.
+-- The scenario that a value describes: for each name its value, or the default.
 use Rattle.std.specs.Prelude.{ℕ, ◌==◌, Bool, false, if◌then◌else◌, List, [], ◌∷◌, length, bytes_eq, codes}
 use Rattle.serde_json.specs.Data.{Data, null, boolean, number, string, array, object, Items, no_items, item}
 use Rattle.serde_json.specs.Written.{compact_text}
@@ -24,7 +24,7 @@ use Rattle.scenario_read.specs.CellLists.{cell_of, octets_of}
 pub use Rattle.scenario_read.specs.Table.{number_at, request_of, act_of}
 use Rattle.scenario_read.specs.Table.{base, cells, pattern, clock, section, gain, lose, second, entry_section, entry_pattern, poll_every, clock_every, pattern_every, retries, schedule, round, cabinet_number, veh, on, ped, preempt, load_cells, stream, frame_hex, way, index, fault_kind, by, octet, version, rounds, ticks, community, cabinets, master, inputs, loads, priority, frames, link_faults}
 
--- the flag that a value is
+-- the flag that a value is; false for any other value
 abbrev pub flag_of : Data → Bool
 flag_of null = false
 flag_of (boolean b) = b
@@ -33,7 +33,7 @@ flag_of (string s) = false
 flag_of (array ds) = false
 flag_of (object ms) = false
 
--- the standard tables that a value names
+-- the base tables that a value names; std8 for any other value
 abbrev pub base_of : Data → Base
 base_of null = Std8
 base_of (boolean b) = Std8
@@ -42,16 +42,16 @@ base_of (string s) = if bytes_eq s (codes "max8") then Max8 else Std8
 base_of (array ds) = Std8
 base_of (object ms) = Std8
 
--- what each item says
+-- the result of `f` for each of these items
 abbrev pub each_of : {A : Type 0} → (Data → A) → Items → List A
 each_of f no_items = []
 each_of f (item d ds) = f d ∷ each_of f ds
 
--- what each item of a list says
+-- the result of `f` for each item of a list
 abbrev pub list_in : {A : Type 0} → (Data → A) → Data → List A
 list_in f d = each_of f (items_in d)
 
--- the text that a value is
+-- the text that a value is; empty for any other value
 abbrev pub text_of : Data → List ℕ
 text_of null = []
 text_of (boolean b) = []
@@ -76,11 +76,11 @@ fault_kind_of d =
     if bytes_eq (text_of d) (codes "late") then Late else
     if bytes_eq (text_of d) (codes "flip") then Flip else Cut
 
--- a clock drifts only in version 2
+-- the number of ticks after which a clock drifts by one tick; 0 (never) in version 1
 abbrev pub drift_at : ℕ → Name → Data → ℕ
 drift_at version f d = if version == 2 then number_at f d else 0
 
--- the cabinet of an object, in a scenario of this version
+-- the cabinet that an object describes, in a scenario of this version
 abbrev pub cabinet_of : ℕ → Data → CabinetContent
 cabinet_of version d = record {
   base = base_of (held base d);
@@ -92,11 +92,11 @@ cabinet_of version d = record {
   lose = drift_at version lose d;
 }
 
--- the entry of a schedule that an object is
+-- the entry of a schedule that an object describes
 abbrev pub entry_of : Data → Entry
 entry_of d = record { second = number_at second d; section = number_at entry_section d; pattern = number_at entry_pattern d }
 
--- the master of an object
+-- the master that an object describes
 abbrev pub master_of : Data → MasterContent
 master_of d = record {
   clock = number_at clock d;
@@ -107,13 +107,14 @@ master_of d = record {
   schedule = list_in entry_of (held schedule d);
 }
 
--- the detector, the push button or the preempt input of an object
+-- the detector, push button or preempt input that an object describes
 abbrev pub field_of : Data → Field
 field_of d =
     if stands d (veh ∷ on ∷ []) then Veh (number_at veh d) (flag_of (held on d)) else
     if stands d (ped ∷ []) then Ped (number_at ped d) else Preempt (number_at preempt d) (flag_of (held on d))
 
--- the input of an object; the numbers of rounds and cabinets bound what is allowed there, not what it says
+-- the input that an object describes. The numbers of rounds and cabinets determine which values are valid, not the
+-- result
 abbrev pub input_of : ℕ → ℕ → Data → Input
 input_of round_count cabinet_count d = record {
   round = number_at (round round_count) d;
@@ -121,7 +122,7 @@ input_of round_count cabinet_count d = record {
   field = field_of d;
 }
 
--- the load of an object
+-- the load that an object describes
 abbrev pub load_of : ℕ → ℕ → Data → LoadContent
 load_of round_count cabinet_count d = record {
   round = number_at (round round_count) d;
@@ -129,7 +130,7 @@ load_of round_count cabinet_count d = record {
   cells = list_in cell_of (held load_cells d);
 }
 
--- what an object asks of a cabinet's priority, in a round
+-- the priority request or its cancel that an object describes, with the round and the cabinet
 abbrev pub priority_of : ℕ → ℕ → Data → PriorityItem
 priority_of round_count cabinet_count d = record {
   round = number_at (round round_count) d;
@@ -137,7 +138,7 @@ priority_of round_count cabinet_count d = record {
   act = act_of d;
 }
 
--- the frame of an object
+-- the message that an object describes
 abbrev pub frame_of : ℕ → ℕ → Data → FrameContent
 frame_of round_count cabinet_count d = record {
   round = number_at (round round_count) d;
@@ -146,7 +147,7 @@ frame_of round_count cabinet_count d = record {
   hex = octets_of (held frame_hex d);
 }
 
--- the fault of the link that an object is
+-- the fault of the link that an object describes
 abbrev pub fault_of : ℕ → ℕ → Data → Fault
 fault_of round_count cabinet_count d = record {
   round = number_at (round round_count) d;
@@ -159,7 +160,7 @@ fault_of round_count cabinet_count d = record {
   octet = number_at octet d;
 }
 
--- the version of the form
+-- the version of the scenario's format
 abbrev pub version_number : Data → ℕ
 version_number d = number_at version d
 
@@ -171,7 +172,7 @@ round_count d = number_at rounds d
 abbrev pub tick_count : Data → ℕ
 tick_count d = number_at ticks d
 
--- the cabinets in their order
+-- the cabinets in order
 abbrev pub cabinets_of : Data → List CabinetContent
 cabinets_of d = list_in (cabinet_of (version_number d)) (held (cabinets (version_number d)) d)
 
@@ -179,11 +180,11 @@ cabinets_of d = list_in (cabinet_of (version_number d)) (held (cabinets (version
 abbrev pub cabinet_count : Data → ℕ
 cabinet_count d = length (cabinets_of d)
 
--- the items at a name whose kind the numbers of rounds and cabinets bound
+-- what the items of this list describe. The numbers of rounds and cabinets determine which values are valid
 abbrev pub events_at : {A : Type 0} → (ℕ → ℕ → Name) → (ℕ → ℕ → Data → A) → ℕ → ℕ → Data → List A
 events_at name says round_count cabinet_count d = list_in (says round_count cabinet_count) (held (name round_count cabinet_count) d)
 
--- the whole scenario
+-- the scenario that a value describes
 abbrev pub scenario_of : Data → ScenarioContent
 scenario_of d = record {
   version = version_number d;

@@ -25,7 +25,7 @@ use Rattle.scenario_read.specs.Table.{rounds, ticks, community, cabinets, master
 use Rattle.scenario_read.specs.Content.{number_at, text_of, list_in, cabinet_of, master_of, input_of, load_of, priority_of, frame_of, fault_of, events_at, version_number, round_count, cabinet_count}
 use Rattle.scenario_read.specs.Faults.{first_cause}
 
--- the name at which a list is
+-- the name of a list in a scenario
 abbrev pub list_name : TopList → List ℕ
 list_name Cabinets = codes "cabinets"
 list_name Inputs = codes "inputs"
@@ -34,7 +34,7 @@ list_name Priority = codes "priority"
 list_name Frames = codes "frames"
 list_name Faults = codes "faults"
 
--- the path of a place
+-- the path of a place in a scenario
 abbrev pub steps_of : Place → List Step
 steps_of Top = []
 steps_of Master = Named (codes "master") ∷ []
@@ -52,22 +52,24 @@ abbrev pub refusal_at : String Global → Unfit → Refusal
 refusal_at path WrongValue = FieldRefusal path
 refusal_at path BeyondValue = LimitRefusal path
 
--- the answer to a value that fits so: what is read, where it fits
+-- the answer to a value that fits like this. If the value is read, it fits, and `Is` holds for the result; if it is
+-- refused, the refusal says how it fits
 abbrev pub ReadAs : {A : Type 0} → Result A Unfit → Fit → (A → Type 0) → Type 0
 ReadAs (Ok a) fit Is = (fit ≡ Fits) × Is a
 ReadAs (Err unfit) fit Is = fit ≡ fit_of unfit
 
--- a refusal names the first of these faults; memory may be short
+-- the refusal names the first of these faults, or memory ran out
 abbrev pub Refuses : ReadFail → List Cause → Type 0
 Refuses (Refused refusal) causes = Names refusal (first_cause causes)
 Refuses NoMemory causes = Unit {0}
 
--- the answer to a value with these faults: what is read, where there are none; else the first of them
+-- the answer to a value with these faults. If the value is read, it has no faults, and `Is` holds for the result. If
+-- it isn't read, the refusal names the first fault, or memory ran out
 abbrev pub Answers : {A : Type 0} → Result A ReadFail → List Cause → (A → Type 0) → Type 0
 Answers (Ok a) causes Is = (causes ≡ []) × Is a
 Answers (Err fail) causes Is = Refuses fail causes
 
--- the faults of an object of names that aren't known, and of what is not an object
+-- the faults of unknown names in an object; every other value is of the wrong kind
 abbrev pub names_faults : List (List ℕ) → List Step → Data → List Cause
 names_faults known path null = fault_at path Wrong
 names_faults known path (boolean b) = fault_at path Wrong
@@ -76,11 +78,11 @@ names_faults known path (string s) = fault_at path Wrong
 names_faults known path (array ds) = fault_at path Wrong
 names_faults known path (object ms) = unknown_faults known path ms
 
--- the cabinets of loads
+-- the cabinet of each load
 abbrev pub load_cabinets : List LoadItem → List ℕ
 load_cabinets loads = map (λ load. load.cabinet) loads
 
--- what the names say that represent the whole run, in a scenario of this version
+-- what was read about the whole run is what the value describes, in a scenario of this version
 pub record SaysSetup (setup : Setup) (version : ℕ) (d : Data) : Type 0 where
   pub rounds : setup.rounds ≡ number_at rounds d
   pub ticks : setup.ticks ≡ number_at ticks d
@@ -88,7 +90,7 @@ pub record SaysSetup (setup : Setup) (version : ℕ) (d : Data) : Type 0 where
   pub cabinets : map cabinet_content setup.cabinets.items ≡ list_in (cabinet_of version) (held (cabinets version) d)
   pub master : master_content setup.master ≡ master_of (held master d)
 
--- what the names say of what happens in that many rounds at that many cabinets
+-- what was read about the rounds is what the value describes, in a scenario with this many rounds and cabinets
 pub record SaysEvents (events : Events) (rounds cabinets : ℕ) (d : Data) : Type 0 where
   pub inputs : events.inputs.items ≡ events_at inputs input_of rounds cabinets d
   pub loads : map load_content events.loads.items ≡ events_at loads load_of rounds cabinets d
@@ -96,13 +98,13 @@ pub record SaysEvents (events : Events) (rounds cabinets : ℕ) (d : Data) : Typ
   pub frames : map frame_content events.frames.items ≡ events_at frames frame_of rounds cabinets d
   pub faults : events.faults.items ≡ events_at link_faults fault_of rounds cabinets d
 
--- what the names of a scenario say
+-- what was read is what the value describes
 pub record Says (parts : Parts) (d : Data) : Type 0 where
   pub version : parts.version ≡ version_number d
   pub setup : SaysSetup parts.setup (version_number d) d
   pub events : SaysEvents parts.events (round_count d) (cabinet_count d) d
 
--- the scenario of these parts and this compact text
+-- the content of the scenario with these parts and this compact text
 abbrev pub content_from : Parts → List ℕ → ScenarioContent
 content_from parts compact = record {
   version = parts.version;

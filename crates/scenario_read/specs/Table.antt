@@ -1,4 +1,4 @@
--- The table of a scenario's names: for each object its fields in order, each with what is allowed there and its
+-- The table of the names of a scenario: the fields of each object in order, each with its valid values and its
 -- default.
 use Rattle.std.specs.Prelude.{ℕ, ◌+◌, ◌==◌, ◌&&◌, nat_lt, Bool, false, if◌then◌else◌, List, [], ◌∷◌, ◌++◌, codes}
 use Rattle.serde_json.specs.Data.{unsigned, number, Data, string, array, object, no_items, no_members}
@@ -11,18 +11,19 @@ use Rattle.scenario_read.specs.Kinds.{Fits, Wrong, Beyond, Kind, fault_at, whole
 use Rattle.scenario_read.specs.Fields.{Field, needed, optional, Shape, held, stands, object_of}
 use Rattle.scenario_read.specs.CellLists.{cell, hex_text, whole_of}
 
--- a whole number that must be at a name, and one that may be absent
+-- a required whole number from `least` to `most`
 abbrev pub needed_whole : List ℕ → ℕ → ℕ → Field
 needed_whole name least most = needed name (whole least most)
 
+-- an optional whole number from `least` to `most`, with its default
 abbrev pub optional_whole : List ℕ → ℕ → ℕ → ℕ → Field
 optional_whole name least most default = optional name (whole least most) (number (unsigned default))
 
--- the whole number at a name
+-- the whole number in a field, or else its default
 abbrev pub number_at : Field → Data → ℕ
 number_at f d = whole_of (held f d)
 
--- a cabinet
+-- the fields of a cabinet
 abbrev pub base : Field
 base = optional (codes "base") (word (codes "std8" ∷ codes "max8" ∷ [])) (string (codes "std8"))
 
@@ -44,25 +45,27 @@ gain = optional (codes "gain") (rare 12000 864000) (number (unsigned 0))
 abbrev pub lose : Field
 lose = optional (codes "lose") (rare 12000 864000) (number (unsigned 0))
 
--- the names by which the clock of a cabinet drifts are only of version 2
+-- the fields of the drift of a clock, which only version 2 has
 abbrev pub drift_fields : ℕ → List Field
 drift_fields version = if version == 2 then gain ∷ lose ∷ [] else []
 
+-- the shape of a cabinet
 abbrev pub cabinet_shape : ℕ → Shape
 cabinet_shape version = record { fields = base ∷ cells ∷ pattern ∷ clock ∷ section ∷ drift_fields version; alternatives = [] }
 
--- a clock that drifts gains or loses
+-- the clock of the cabinet both gains and loses
 abbrev pub drifts_both_ways : ℕ → Data → Bool
 drifts_both_ways version d = version == 2 && (nat_lt 0 (number_at gain d) && nat_lt 0 (number_at lose d))
 
--- a cabinet that gains and loses is itself at fault, after its names
+-- the fault of a cabinet whose clock both gains and loses: the cabinet itself is at fault, after its fields
 abbrev pub drift_faults : ℕ → List Step → Data → List Cause
 drift_faults version path d = fault_at path (if drifts_both_ways version d then Wrong else Fits)
 
+-- the kind of cabinets
 abbrev pub cabinet : ℕ → Kind
 cabinet version path d = object_of (cabinet_shape version) path d ++ drift_faults version path d
 
--- an entry of the master's schedule, and the master
+-- the fields of an entry of the master's schedule
 abbrev pub second : Field
 second = needed_whole (codes "second") 0 86399
 
@@ -75,6 +78,7 @@ entry_pattern = needed_whole (codes "pattern") 0 255
 abbrev pub entry_shape : Shape
 entry_shape = record { fields = second ∷ entry_section ∷ entry_pattern ∷ []; alternatives = [] }
 
+-- the fields of the master
 abbrev pub poll_every : Field
 poll_every = optional_whole (codes "poll_every") 0 86400 0
 
@@ -93,14 +97,15 @@ schedule = optional (codes "schedule") (list_of 0 1000 (object_of entry_shape)) 
 abbrev pub master_shape : Shape
 master_shape = record { fields = clock ∷ poll_every ∷ clock_every ∷ pattern_every ∷ retries ∷ schedule ∷ []; alternatives = [] }
 
--- what happens in a round at a cabinet, where there are this number of rounds and cabinets
+-- the fields for the round and the cabinet of an item; the scenario has this many of each
 abbrev pub round : ℕ → Field
 round rounds = needed_whole (codes "round") 1 rounds
 
 abbrev pub cabinet_number : ℕ → Field
 cabinet_number cabinets = needed_whole (codes "cabinet") 1 cabinets
 
--- an input: a vehicle detector turns on or off, a push button is pressed, or a preempt input turns on or off
+-- the fields of an input. A vehicle detector turns on or off, a push button is pressed, or a preempt input turns on
+-- or off
 abbrev pub veh : Field
 veh = needed_whole (codes "veh") 1 16
 
@@ -119,7 +124,7 @@ input_fields = (veh ∷ on ∷ []) ∷ (ped ∷ []) ∷ (preempt ∷ on ∷ []) 
 abbrev pub input_shape : ℕ → ℕ → Shape
 input_shape rounds cabinets = record { fields = round rounds ∷ cabinet_number cabinets ∷ []; alternatives = input_fields }
 
--- a load; past the hundredth of its cabinet it is itself beyond the limit, after its names
+-- the fields of a load
 abbrev pub load_cells : Field
 load_cells = needed (codes "cells") (list_of 1 768 cell)
 
@@ -129,18 +134,20 @@ load_shape rounds cabinets = record { fields = round rounds ∷ cabinet_number c
 abbrev pub load_cabinet : ℕ → Data → ℕ
 load_cabinet cabinets d = number_at (cabinet_number cabinets) d
 
--- how often a number is in a list
+-- how often a number occurs in a list
 abbrev pub count_of : ℕ → List ℕ → ℕ
 count_of n [] = 0
 count_of n (m ∷ more) = (if m == n then 1 else 0) + count_of n more
 
+-- the fault of a load with 100 or more earlier loads of the same cabinet: the load itself is out of range
 abbrev pub full_faults : List ℕ → List Step → ℕ → List Cause
 full_faults earlier path cabinet = fault_at path (if nat_lt (count_of cabinet earlier) 100 then Fits else Beyond)
 
+-- the kind of loads, by the cabinets of the earlier loads; the load itself is checked after its fields
 abbrev pub load : ℕ → ℕ → List ℕ → Kind
 load rounds cabinets earlier path d = object_of (load_shape rounds cabinets) path d ++ full_faults earlier path (load_cabinet cabinets d)
 
--- a priority request, or the cancel of one; a request may not arrive after it departs
+-- the fields of a priority request, or of the cancel of one
 abbrev pub cancel : Field
 cancel = needed_whole (codes "cancel") 1 10
 
@@ -171,7 +178,7 @@ priority_fields = (cancel ∷ []) ∷ request_fields ∷ []
 abbrev pub priority_shape : ℕ → ℕ → Shape
 priority_shape rounds cabinets = record { fields = round rounds ∷ cabinet_number cabinets ∷ []; alternatives = priority_fields }
 
--- what a request says
+-- the priority request that an object describes
 abbrev pub request_of : Data → Request
 request_of d = record {
   number = number_at request_number d;
@@ -182,22 +189,24 @@ request_of d = record {
   departure = number_at departure d;
 }
 
--- the request or the cancel that an object says
+-- the priority request or the cancel that an object describes
 abbrev pub act_of : Data → PriorityAct
 act_of d = if stands d (cancel ∷ []) then Cancel (number_at cancel d) else AskRequest (request_of d)
 
--- a request that arrives after it departs
+-- the arrival of the request is after its departure
 abbrev pub is_late : PriorityAct → Bool
 is_late (AskRequest request) = nat_lt request.departure request.arrival
 is_late (Cancel n) = false
 
+-- the fault of a request whose arrival is after its departure: the departure is out of range
 abbrev pub departure_faults : List Step → PriorityAct → List Cause
 departure_faults path act = fault_at (then_named path departure.name) (if is_late act then Beyond else Fits)
 
+-- the kind of priority requests and cancels
 abbrev pub priority_item : ℕ → ℕ → Kind
 priority_item rounds cabinets path d = object_of (priority_shape rounds cabinets) path d ++ departure_faults path (act_of d)
 
--- a frame that reaches a cabinet on a stream
+-- the fields of a message that reaches a cabinet on a stream
 abbrev pub stream_words : List (List ℕ)
 stream_words = codes "poll" ∷ codes "load" ∷ codes "priority" ∷ []
 
@@ -210,7 +219,7 @@ frame_hex = needed (codes "hex") (hex_text 1472)
 abbrev pub frame_shape : ℕ → ℕ → Shape
 frame_shape rounds cabinets = record { fields = round rounds ∷ cabinet_number cabinets ∷ stream ∷ frame_hex ∷ []; alternatives = [] }
 
--- a fault of the link
+-- the fields of a fault of the link
 abbrev pub way_words : List (List ℕ)
 way_words = codes "down" ∷ codes "up" ∷ []
 
@@ -238,7 +247,7 @@ fault_shape rounds cabinets = record {
   alternatives = [];
 }
 
--- the whole
+-- the fields of the scenario itself
 abbrev pub version : Field
 version = needed_whole (codes "version") 1 2
 
@@ -257,10 +266,11 @@ cabinets version = needed (codes "cabinets") (list_of 1 64 (cabinet version))
 abbrev pub master : Field
 master = optional (codes "master") (object_of master_shape) (object no_members)
 
--- a list of at most that many; none where it is absent
+-- an optional list of at most `most` items; by default it is empty
 abbrev pub optional_list : List ℕ → ℕ → Kind → Field
 optional_list name most kind = optional name (list_of 0 most kind) (array no_items)
 
+-- the lists of the scenario
 abbrev pub inputs : ℕ → ℕ → Field
 inputs rounds cabinets = optional_list (codes "inputs") 1000000 (object_of (input_shape rounds cabinets))
 
@@ -276,14 +286,15 @@ frames rounds cabinets = optional_list (codes "frames") 100000 (object_of (frame
 abbrev pub link_faults : ℕ → ℕ → Field
 link_faults rounds cabinets = optional_list (codes "faults") 100000 (object_of (fault_shape rounds cabinets))
 
--- the names after the version, of what represents the whole run
+-- the fields that describe the whole run, after the version
 abbrev pub setup_fields : ℕ → List Field
 setup_fields version = rounds ∷ ticks ∷ community ∷ cabinets version ∷ master ∷ []
 
--- the names of what happens in the rounds
+-- the fields of the items that happen in the rounds
 abbrev pub event_fields : ℕ → ℕ → List Field
 event_fields rounds cabinets = inputs rounds cabinets ∷ loads rounds cabinets ∷ priority rounds cabinets ∷ frames rounds cabinets ∷ link_faults rounds cabinets ∷ []
 
+-- the shape of a scenario
 abbrev pub scenario_shape : ℕ → ℕ → ℕ → Shape
 scenario_shape version_number rounds cabinets = record {
   fields = version ∷ (setup_fields version_number ++ event_fields rounds cabinets);

@@ -1,12 +1,11 @@
 -- The counter of a cycle, and how it is brought onto the offset (FHWA Signal Timing Manual, offset transition; the
--- names dwell, shortway and add only after NTCIP 1202; where the counter waits and skips, and the limits of a cycle,
--- are this project's own). The counters are those of the frames since the last pickup: a list with the newest first,
--- the pickup's own 0 the last. All times are in ticks.
+-- names dwell, shortway and add only after NTCIP 1202; the ticks at which the counter waits and skips, and the limits
+-- of a cycle, are this project's own). A list of counters has one for each frame since the last pickup, newest first;
+-- its last entry is the 0 of the pickup. All times are in ticks.
 use Rattle.std.specs.Prelude.{ℕ, zero, suc, Bool, true, false, not, ◌+◌, ◌-◌, ◌*◌, ◌/◌, ◌%◌, ◌==◌, ◌&&◌, ◌||◌, ◌≤◌, ◌<◌, min, max, nat_le, if◌then◌else◌, List, [], ◌∷◌}
 
--- what the plan and the unit say about the correction: the cycle, the window after local zero in which the counter may
--- be corrected, the mode (2 dwell, 3 shortway, 4 add only), and how many ticks one cycle may dwell, add and subtract at
--- most
+-- the values on which a correction depends: the cycle, the window after local zero in which the counter may be
+-- corrected, the mode (2 dwell, 3 shortway, 4 add only), and the most ticks that one cycle may dwell, add and subtract
 pub record Correction : Type 0 where
   pub cycle : ℕ
   pub window : ℕ
@@ -15,23 +14,23 @@ pub record Correction : Type 0 where
   pub add : ℕ
   pub subtract : ℕ
 
--- the counter of the last frame
+-- the counter of the last frame; 0 without a frame
 abbrev pub last_counter : List ℕ → ℕ
 last_counter [] = 0
 last_counter (c ∷ before) = c
 
--- the counter has changed to 0 at the last step
+-- the last step took the counter from another value to 0
 abbrev pub changes_to_zero : ℕ → ℕ → Bool
 changes_to_zero c before = c == 0 && not (before == 0)
 
--- how often the counter has waited since it last changed to 0, or since the pickup
+-- how often the counter has waited since it last returned to 0, or since the pickup
 abbrev pub stands : List ℕ → ℕ
 stands [] = 0
 stands (c ∷ []) = 0
 stands (c ∷ b ∷ before) =
     if changes_to_zero c b then 0 else if c == b then stands (b ∷ before) + 1 else stands (b ∷ before)
 
--- how often it has advanced by 2 since then
+-- how often the counter has advanced by 2 since it last returned to 0, or since the pickup
 abbrev pub skips : List ℕ → ℕ
 skips [] = 0
 skips (c ∷ []) = 0
@@ -44,41 +43,42 @@ last_step_changed [] = true
 last_step_changed (c ∷ []) = true
 last_step_changed (c ∷ b ∷ before) = not (c == b)
 
--- a cycle has just begun: at the pickup, or as the counter changed to 0
+-- a cycle has just begun: at the pickup, or when the counter returned to 0
 abbrev pub begins_cycle : List ℕ → Bool
 begins_cycle [] = false
 begins_cycle (c ∷ []) = c == 0
 begins_cycle (c ∷ b ∷ before) = changes_to_zero c b
 
--- a moment of the cycle, one tick later
+-- the point of the cycle one tick after `moment`
 abbrev pub tick_later : ℕ → ℕ → ℕ
 tick_later cycle moment = (moment + 1) % cycle
 
--- how far the target would be ahead, modulo the cycle, if the counter advanced from c by one tick at each tick
+-- by how many ticks the target would be ahead of the counter, modulo the cycle, if the counter advanced from c by one
+-- tick
 abbrev pub ahead : ℕ → ℕ → ℕ → ℕ
 ahead cycle target c = (target + cycle - c - 1) % cycle
 
--- how many steps of at most `most` ticks correct an error of n ticks
+-- how many steps of at most `most` ticks are needed for n ticks
 abbrev pub steps_for : ℕ → ℕ → ℕ
 steps_for n most = (n + most - 1) / most
 
--- shortway adds if that takes no more cycles than subtracting
+-- adding takes no more cycles than subtracting, so shortway adds
 abbrev pub adds_sooner : Correction → ℕ → Bool
 adds_sooner k error = nat_le (steps_for (k.cycle - error) k.add) (steps_for error k.subtract)
 
--- the counter waits at local zero for up to `dwell` ticks a cycle
+-- the counter after c with dwell: it waits at local zero, for up to `dwell` ticks a cycle
 abbrev pub dwelling : Correction → List ℕ → ℕ → ℕ
 dwelling k past c = if c == 0 && not (nat_le k.dwell (stands past)) then c else tick_later k.cycle c
 
--- the counter waits at every second tick, up to `add` times a cycle
+-- the counter after c with adding: it waits at every second tick, up to `add` times a cycle
 abbrev pub adding : Correction → List ℕ → ℕ → ℕ
 adding k past c = if last_step_changed past && not (nat_le k.add (stands past)) then c else tick_later k.cycle c
 
--- the counter advances by 2, up to `subtract` times a cycle, and never past the window
+-- the counter after c with skipping: it advances by 2, up to `subtract` times a cycle, and never past the window
 abbrev pub skipping : Correction → List ℕ → ℕ → ℕ
 skipping k past c = if nat_le (c + 2) k.window && not (nat_le k.subtract (skips past)) then c + 2 else tick_later k.cycle c
 
--- the counter after c by the mode of correction, if the target is ahead by this error
+-- the counter after c by the mode of correction, if the target is `error` ticks ahead
 abbrev pub corrected : Correction → List ℕ → ℕ → ℕ → ℕ
 corrected k past c error =
     if k.mode == 2 then dwelling k past c
@@ -86,41 +86,42 @@ corrected k past c error =
     else if k.mode == 3 then (if adds_sooner k error then adding k past c else skipping k past c)
     else tick_later k.cycle c
 
--- without an error, or outside the window, it advances by one tick
+-- the counter after c: it advances by one tick if the target isn't ahead or the window is over, otherwise it is
+-- corrected
 abbrev pub counter_after : Correction → List ℕ → ℕ → ℕ → ℕ
 counter_after k past c error =
     if error == 0 || nat_le k.window c then tick_later k.cycle c else corrected k past c error
 
--- the counter of the next frame, from those before it and the target of that frame
+-- the counter of the next frame, given the counters before it and the target of that frame
 abbrev pub next_counter : Correction → List ℕ → ℕ → ℕ
 next_counter k past target = counter_after k past (last_counter past) (ahead k.cycle target (last_counter past))
 
--- the counters after n ticks more, where the target of the last frame is given and continues as time does
+-- the counters after n more ticks, given the target of the last frame; the target advances by one at each tick
 abbrev pub counted : Correction → ℕ → ℕ → List ℕ → List ℕ
 counted k zero target past = past
 counted k (suc n) target past =
     counted k n (tick_later k.cycle target) (next_counter k past (tick_later k.cycle target) ∷ past)
 
--- the target after n ticks more
+-- the target after n more ticks
 abbrev pub target_after : Correction → ℕ → ℕ → ℕ
 target_after k n target = (target + n) % k.cycle
 
--- the greatest number of ticks by which one cycle is made longer or shorter
+-- the greatest number of ticks by which the correction makes one cycle longer or shorter
 abbrev pub most_a_cycle : Correction → ℕ
 most_a_cycle k =
     if k.mode == 2 then k.dwell
     else if k.mode == 4 then k.add
     else max k.add k.subtract
 
--- in how many cycles the counter comes to equal the target, from a local zero with this target
+-- the number of cycles until the counter equals the target, counted from a local zero with this target
 abbrev pub needed : Correction → ℕ → ℕ
 needed k target =
     if k.mode == 2 then steps_for ((k.cycle - target) % k.cycle) k.dwell
     else if k.mode == 4 then steps_for ((k.cycle - target) % k.cycle) k.add
     else min (steps_for ((k.cycle - target) % k.cycle) k.add) (steps_for target k.subtract)
 
--- the correction has room: a valid mode, limits of at least one tick, and a window that is long enough for the waits
--- and the skips of one cycle and shorter than the cycle
+-- the limits within which a correction works: a valid mode, limits of at least one tick, and a window that is shorter
+-- than the cycle and long enough for the waits and the skips of one cycle
 pub record HasRoom (k : Correction) : Type 0 where
   pub least_mode : 2 ≤ k.mode
   pub greatest_mode : k.mode ≤ 4

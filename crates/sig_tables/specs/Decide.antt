@@ -1,4 +1,4 @@
--- The moments of a history, and the frames that it has given.
+-- The moments of a history, and its frames: what a controller does after everything that has happened to it.
 use Rattle.std.specs.Prelude.{ℕ, ◌+◌, List, [], ◌∷◌, ◌++◌, Some, None}
 use Rattle.sig_types.specs.declared.frame.Frame.{Frame}
 use Rattle.sig_tables.specs.declared.tables.Tables.{Tables}
@@ -10,7 +10,7 @@ pub use Rattle.sig_tables.specs.TickState.{RingTurn, Rest, StartUp, Rings, Goal,
 pub use Rattle.sig_tables.specs.Walking.{walks_at_green, walk_begins}
 pub use Rattle.sig_tables.specs.Ticking.{moves_of, colour_after, signal_after, on_of, frame_of, colours_of, view_of, moment_with, moment_seeing, next_moment}
 
--- the past before any event: the first moment, under the opening tables
+-- the past before any event: only the first moment, under the opening tables
 abbrev pub opened : Tables → Past
 opened t = record {
   tables = t;
@@ -28,13 +28,13 @@ opened t = record {
 abbrev pub ticks_in : Past → ℕ
 ticks_in past = (last_moment past.tables past.moments).number
 
--- the past with one moment more: nothing has arrived since
+-- the past with one more moment, after which nothing has arrived
 abbrev pub with_moment : Past → Moment → Past
 with_moment past m = record past { commanded = None; clock_set = None; heard = []; moments = m ∷ past.moments }
 
--- the past with one event more: a tick gives a moment, an input is kept, a download puts tables in force; a command and
--- a set clock take effect at the next tick; a priority request is live and a cancel takes effect at once; a drift holds
--- from the next tick on
+-- the past with one more event. A tick adds a moment, an input is stored, and a download puts its tables in force. A
+-- command, a set clock and a drift take effect from the next tick on. A priority request and a cancellation take effect
+-- at once
 abbrev pub with_event : Event → Past → Past
 with_event Tick past = with_moment past (next_moment past)
 with_event (Input field) past = record past { heard = record { tables = past.tables; field = field } ∷ past.heard }
@@ -45,7 +45,7 @@ with_event (Ask request) past = record past { asked = Given (ticks_in past) requ
 with_event (Cancel number) past = record past { asked = Cancelled (ticks_in past) number ∷ past.asked }
 with_event (SetDrift gain lose) past = record past { gain = gain; lose = lose }
 
--- what a list of events has reached, from these opening tables
+-- the past after these events (newest first), from these opening tables
 abbrev pub past_of : Tables → List Event → Past
 past_of opening [] = opened opening
 past_of opening (e ∷ events) = with_event e (past_of opening events)
@@ -55,28 +55,27 @@ abbrev pub frames_in : List Moment → List Frame
 frames_in [] = []
 frames_in (m ∷ past) = m.frame ∷ frames_in past
 
--- the orders with which a controller is opened: its pattern is commanded and its clock is set before anything else
--- arrives
+-- the events of opening a controller: its pattern is commanded and its clock is set before anything else arrives
 abbrev pub opening_commands : ℕ → ℕ → List Event
 opening_commands command clock = SetPattern command ∷ SetClock clock ∷ []
 
--- the events of a history, its opening orders before all others
+-- all events of a history; the opening commands are the oldest
 abbrev pub since_opening : History → List Event
 since_opening h = h.events ++ opening_commands h.command h.clock
 
--- what a history has reached
+-- the past after a history
 abbrev pub past_at : History → Past
 past_at h = past_of h.tables (since_opening h)
 
--- the frames of a history, the newest first
+-- the frames of a history, newest first
 abbrev pub frames : History → List Frame
 frames h = frames_in (past_at h).moments
 
--- the frame that was given last
+-- the last frame of a history
 abbrev pub last_frame_of : History → Frame
 last_frame_of h = last_frame (past_at h).moments
 
--- the frame that a tick gives next
+-- the frame that the next tick gives
 abbrev pub decide : History → Frame
 decide h = (next_moment (past_at h)).frame
 
@@ -88,10 +87,10 @@ with_one h e = record { tables = h.tables; command = h.command; clock = h.clock;
 abbrev pub ticked : History → History
 ticked h = with_one h Tick
 
--- the history of a controller to which nothing has happened
+-- the history of a controller to which nothing has happened since it was opened
 abbrev pub opening : Tables → ℕ → ℕ → History
 opening t command clock = record { tables = t; command = command; clock = clock; events = [] }
 
--- the same where the clock drifts
+-- the history of a controller to which nothing has happened, except that its clock was given this drift
 abbrev pub opening_drifting : Tables → ℕ → ℕ → ℕ → ℕ → History
 opening_drifting t command clock gain lose = with_one (opening t command clock) (SetDrift gain lose)

@@ -1,4 +1,4 @@
--- What holds of each event of a history, with those that came before it. Events have the newest first.
+-- A condition on each event of a history and on the events before it. Lists of events have the newest first.
 use Rattle.std.specs.Prelude.{List, [], ◌∷◌}
 use Rattle.sig_tables.specs.Past.{Event}
 

@@ -1,4 +1,4 @@
--- The phases that a mode brings to Green, and the smaller times of those that make way for a preempt.
+-- The phases that a mode brings to Green, and the shorter times of phases that make way for a preempt.
 use Rattle.std.specs.Prelude.{ℕ, zero, suc, ◌*◌, ◌&&◌, max, min, nat_le, Bool, if◌then◌else◌, List, []}
 use Rattle.sig_types.specs.declared.frame.Colour.TheVariants.{Green}
 use Rattle.sig_types.specs.declared.frame.Ped.TheVariants.{Dont}
@@ -16,8 +16,8 @@ use Rattle.sig_tables.specs.Past.{Moment}
 use Rattle.sig_tables.specs.Looking.{run, latched, last_frame}
 use Rattle.sig_tables.specs.Lesser.{Lesser, InFull, AtMost, signal_runs_within}
 
--- the phases that should be Green in this mode, as its tables list them; none on the way to flash, and none if the
--- rings have no goal
+-- the phases that this mode brings to Green, as the tables list them: coordinated phases in Seek, phases of the preempt
+-- in its stages and its exit, none in other modes
 abbrev pub listed_goal : Tables → Mode → List ℕ
 listed_goal t (Seek n) = coordinated_phases t n
 listed_goal t (Entry i) = entry_set t i
@@ -26,26 +26,29 @@ listed_goal t (Dwell i) = dwell_set t i
 listed_goal t (Exit i) = exit_set t i
 listed_goal t mode = []
 
--- the same as a set: in rising order, whatever the order in which a ring or a preempt lists them
+-- the same phases in rising order
 abbrev pub goal_in : Tables → Mode → List ℕ
 goal_in t mode = those (is_in (listed_goal t mode)) all_phases
 
--- the times of a phase: in full if no preempt is served, otherwise at most those that preempt i leaves it
+-- the limits on the walk and the pedestrian clearance of a phase: those of preempt i, or no limits if no preempt (0) is
+-- served
 abbrev pub lesser_times : Tables → ℕ → Lesser
 lesser_times t zero = InFull
 lesser_times t (suc i) = AtMost (10 * (preempt_of t (suc i)).minimum_walk) (10 * (preempt_of t (suc i)).enter_pedestrian_clear)
 
--- the times of walk and pedestrian clearance of phase p at a tick of this mode: in full for a phase of the goal
+-- the limits on the walk and the pedestrian clearance of phase p at a tick of this mode; a phase that the mode brings
+-- to Green has none
 abbrev pub lesser_in : Tables → Mode → ℕ → Lesser
 lesser_in t mode p = if is_in (goal_in t mode) p then InFull else lesser_times t (stage_of mode)
 
--- the part of a minimum green that preempt i leaves a phase; all of it if no preempt is served
+-- the minimum green that is left of a time while preempt i is served, at least one tick; the whole time if i is 0 (no
+-- preempt)
 abbrev pub lesser_green : Tables → ℕ → ℕ → ℕ
 lesser_green t zero time = time
 lesser_green t (suc i) time = max 1 (min time (10 * (preempt_of t (suc i)).minimum_green))
 
--- a phase that isn't kept by a goal has been Green long enough in this mode, and no walk or pedestrian clearance of it
--- continues
+-- phase p has been Green for the minimum that this mode leaves it, and shows neither walk nor pedestrian clearance at
+-- this tick
 abbrev pub is_cleared : Mode → Tables → List Moment → ℕ → Bool
 is_cleared mode now past p =
     nat_le (lesser_green now (stage_of mode) (least_green (latched p Green now past) p)) (run p Green past)

@@ -1,4 +1,4 @@
--- The ranges of the numbers in the rows of the tables, where each cell holds an allowed value.
+-- The ranges of the numbers in tables in which each cell holds an allowed value.
 use Rattle.std.specs.Prelude.{ℕ, ◌≤◌, length}
 use Rattle.sig_tables.specs.declared.tables.PhaseTimes.{PhaseTimes}
 use Rattle.sig_tables.specs.declared.tables.Pattern.{Pattern}
@@ -9,7 +9,7 @@ use Rattle.sig_tables.specs.declared.tables.Tables.{Tables}
 use Rattle.sig_tables.specs.Tables.{listed, row, order_of}
 use Rattle.sig_tables.specs.Cells.{pattern_of, preempt_of, entry_of}
 
--- of a phase, except its columns of volume density
+-- the ranges in the row of a phase, except for its columns of volume density
 pub record PhaseInRange (r : PhaseTimes) : Type 0 where
   pub walk : r.walk ≤ 255
   pub pedestrian_clear : r.pedestrian_clear ≤ 255
@@ -26,21 +26,21 @@ pub record PhaseInRange (r : PhaseTimes) : Type 0 where
   pub ring : r.ring ≤ 255
   pub concurrency : length (listed r.concurrency) ≤ 16
 
--- of a split's entry; its mode is 1 to 7, and it is coordinated by 1
+-- the ranges in the entry of a split: its mode is 1 to 7, and 1 means coordinated
 pub record EntryInRange (e : SplitEntry) : Type 0 where
   pub time : e.time ≤ 255
   pub least_mode : 1 ≤ e.mode
   pub mode : e.mode ≤ 7
   pub coordinated : e.coordinated ≤ 1
 
--- of a pattern
+-- the ranges in the row of a pattern
 pub record PatternInRange (r : Pattern) : Type 0 where
   pub cycle : r.cycle ≤ 255
   pub offset : r.offset ≤ 255
   pub split : r.split ≤ 255
   pub sequence : r.sequence ≤ 255
 
--- of a preempt
+-- the ranges in the row of a preempt
 pub record PreemptInRange (r : Preempt) : Type 0 where
   pub delay : r.delay ≤ 600
   pub minimum_duration : r.minimum_duration ≤ 65535
@@ -55,7 +55,7 @@ pub record PreemptInRange (r : Preempt) : Type 0 where
   pub dwell_pedestrians : length (listed r.dwell_pedestrians) ≤ 16
   pub exit_phases : length (listed r.exit_phases) ≤ 16
 
--- of the unit; the correction mode is 1 to 4, the force mode and the offset reference are 1 or 2
+-- the ranges in the unit: the correction mode is 1 to 4, the force mode and the offset reference are 1 or 2
 pub record UnitInRange (u : Corrections) : Type 0 where
   pub least_mode : 1 ≤ u.mode
   pub mode : u.mode ≤ 4
@@ -69,7 +69,7 @@ pub record UnitInRange (u : Corrections) : Type 0 where
   pub least_reference : 1 ≤ u.reference
   pub reference : u.reference ≤ 2
 
--- of all tables
+-- all rows of the tables are in range
 pub record InRange (t : Tables) : Type 0 where
   pub phases : (p : ℕ) → 1 ≤ p → p ≤ 16 → PhaseInRange (row t p)
   pub sequences : (s r : ℕ) → 1 ≤ s → s ≤ 16 → 1 ≤ r → r ≤ 2 → length (order_of t s r) ≤ 16

@@ -1,4 +1,4 @@
--- The signals and the frame of a tick that is only about Start and Free.
+-- The pedestrian signals and the frame of a plain tick (its mode is Start or Free).
 use Rattle.std.specs.Prelude.{ℕ, false, if◌then◌else◌, List, [], ◌∷◌, map}
 use Rattle.sig_types.specs.declared.frame.Colour.{Colour}
 use Rattle.sig_types.specs.declared.frame.Ped.{Ped}
@@ -13,14 +13,15 @@ use Rattle.sig_tables.specs.Walking.{Crossing, walk_begins}
 use Rattle.sig_tables.specs.Ticking.{on_of}
 use Rattle.sig_tables.specs.Plain.{plain_mode}
 
--- the signal of phase p after these colours: Walk where one begins, else what follows by itself
+-- the pedestrian signal of phase p with these colours: Walk if a walk begins, otherwise the signal that follows the
+-- last one
 abbrev pub plain_signal : Crossing → Past → List Colour → ℕ → Ped
 plain_signal crossing past veh p =
     if walk_begins crossing (plain_mode past.moments) p (colour_of (last_frame past.moments) p) (colour_in veh p) (signal_of (last_frame past.moments) p)
     then Walk
     else signal_runs_on p past.tables past.moments (signal_of (last_frame past.moments) p)
 
--- what decides the walks: there is no local zero
+-- the values that decide which walks begin at a plain tick, which is never a local zero
 abbrev pub plain_crossing : RingTurn → Past → List ℕ → List ℕ → Crossing
 plain_crossing ring_turn past pedestrian opposed = record {
   ring_turn = ring_turn;
@@ -30,7 +31,7 @@ plain_crossing ring_turn past pedestrian opposed = record {
   opposed = opposed;
 }
 
--- the frame from the colours
+-- the frame of a plain tick with these colours
 abbrev pub plain_frame : Crossing → Past → List Colour → Frame
 plain_frame crossing past veh = record {
   veh = veh;

@@ -1,4 +1,4 @@
--- What a tick sees, part by part: the words in which the parts of a controller say what they give.
+-- What a tick sees, part by part. The contracts of a controller's parts use these names.
 use Rattle.std.specs.Prelude.{List, ℕ, Option}
 use Rattle.sig_types.specs.declared.frame.Frame.{Frame}
 use Rattle.sig_types.specs.declared.frame.Mode.{Mode}
@@ -37,12 +37,12 @@ detectors_seen past = detectors_on past.heard (moment_seen past)
 abbrev pub mode_seen : Past → Mode
 mode_seen past = (tick_state_of past).mode
 
--- the phases with demand, where this pattern binds
+-- the phases with demand, if this pattern is in effect
 abbrev pub demand_with : Option ℕ → Past → List ℕ
 demand_with pattern past =
     demand_in pattern past.tables (frame_seen past) (vehicle_seen past) (pedestrian_seen past) (detectors_seen past)
 
--- the Green phases that are not active, where this pattern binds
+-- the Green phases that are not active, if this pattern is in effect
 abbrev pub quiet_with : Option ℕ → Past → List ℕ
 quiet_with pattern past = quiet_in pattern past.tables (frame_seen past) past.heard (detectors_seen past)
 
@@ -54,11 +54,11 @@ demand_seen past = demand_with (bound (mode_seen past)) past
 abbrev pub quiet_seen : Past → List ℕ
 quiet_seen past = quiet_with (bound (mode_seen past)) past
 
--- the Green phases to which an incompatible phase has demand
+-- the Green phases for which a conflicting phase has demand
 abbrev pub opposed_seen : Past → List ℕ
 opposed_seen past = opposed_of past.tables (frame_seen past) (demand_seen past)
 
--- all of it
+-- all inputs of the tick
 abbrev pub tick_inputs_seen : Past → TickInputs
 tick_inputs_seen past = tick_inputs_of (bound (mode_seen past)) past
 
@@ -66,10 +66,10 @@ tick_inputs_seen past = tick_inputs_of (bound (mode_seen past)) past
 abbrev pub ring_turn_seen : Past → RingTurn
 ring_turn_seen past = (tick_state_of past).ring_turn
 
--- what the rings look at
+-- the view of the rings at the tick
 abbrev pub view_seen : Past → View
 view_seen past = view_of (tick_state_of past) past (tick_inputs_seen past)
 
--- the phases that end and those that begin
+-- the phases that end their Green at the tick, and those that begin it
 abbrev pub moves_seen : Past → Moves
 moves_seen past = moves_of (ring_turn_seen past) (view_seen past)

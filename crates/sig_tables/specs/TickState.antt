@@ -16,16 +16,17 @@ use Rattle.sig_tables.specs.Goals.{goal_in}
 use Rattle.sig_tables.specs.Counters.{counter_in}
 use Rattle.sig_tables.specs.Priority.{active_in}
 
--- what the rings do at a tick: nothing, begin the start-up phases, follow the rules of actuated control, or move to a
--- goal
+-- what the rings do at a tick: nothing, begin the start-up phases, follow the rules of actuated control, or bring the
+-- phases of a goal to Green
 pub data RingTurn : Type 0 where
   Rest : RingTurn
   StartUp : RingTurn
   Rings : RingTurn
   Goal : (goal : List ℕ) → RingTurn
 
--- the number of the tick, the clock, the command and whether it is new, the preempt inputs that are on, the mode before the
--- colours are known, what the rings do, the counter and its target, and the active priority request
+-- the state of a tick: its number, the clock, the commanded pattern and whether the command is new, the preempt inputs
+-- that are on, the mode before the colours are known, what the rings do, the counter and its target, and the active
+-- priority request
 pub record TickState : Type 0 where
   pub number : ℕ
   pub clock : ℕ
@@ -50,12 +51,12 @@ ring_turn_in t Free = Rings
 ring_turn_in t (Coord n) = Rings
 ring_turn_in t mode = Goal (goal_in t mode)
 
--- the turn after Start: these phases begin; if there are none, the turn is that of the mode
+-- what the rings do after Start: they begin the start-up phases; if there are none, they do what the mode requires
 abbrev pub first_ring_turn : List ℕ → RingTurn → RingTurn
 first_ring_turn [] ring_turn = ring_turn
 first_ring_turn (p ∷ ps) ring_turn = StartUp
 
--- what the rings do after a frame in Start
+-- what the rings do in this mode after a frame in Start
 abbrev pub ring_turn_from_start : Tables → Mode → RingTurn
 ring_turn_from_start t Start = Rest
 ring_turn_from_start t Flash = Rest
@@ -65,7 +66,7 @@ ring_turn_from_start t mode = first_ring_turn (startup_phases t) (ring_turn_in t
 abbrev pub ring_turn_of : Tables → List Moment → Mode → RingTurn
 ring_turn_of t past mode = if is_start (last_frame past).mode then ring_turn_from_start t mode else ring_turn_in t mode
 
--- the state of a tick in this mode
+-- the state of a tick, given its mode
 abbrev pub tick_state_with : Past → ℕ → ℕ → ℕ → List ℕ → Mode → TickState
 tick_state_with past number clock command preempts mode = record {
   number = number;
@@ -80,7 +81,7 @@ tick_state_with past number clock command preempts mode = record {
   active = active_in past.tables mode number past.asked;
 }
 
--- the same, if the mode is still to be chosen
+-- the state of a tick, whose mode the command and the preempt inputs decide
 abbrev pub tick_state_told : Past → ℕ → ℕ → ℕ → List ℕ → TickState
 tick_state_told past number clock command preempts =
     tick_state_with past number clock command preempts (mode_sought past.tables past.version command preempts past.moments)

@@ -1,20 +1,20 @@
--- The items of a round's streams at a cabinet, without the memory that holds them.
+-- The items that a cabinet processes in a round, pass by pass, without the memory that holds them.
 use Rattle.std.specs.Prelude.{ℕ, List, [], ◌∷◌, map, replicate}
 use Rattle.arrayvec.specs.ArrayVec.{ArrayVec}
 use Rattle.sig_types.specs.declared.frame.Field.{Field}
 use Rattle.sig_types.specs.declared.streams.Streams.{Streams}
 
--- an item of a stream: an input from the street, the octets of a frame, or a tick
+-- an item: an input from the street (detector, button or preempt), the bytes of an SNMP message, or a tick
 pub data Item : Type 0 where
   InputTold : (field : Field) → Item
   Came : (octets : List ℕ) → Item
   Ticked : Item
 
--- the octets of frames
+-- the bytes of each of these messages
 abbrev pub texts_of : List (ArrayVec ℕ) → List (List ℕ)
 texts_of frames = map (λ octets. octets.items) frames
 
--- the items of each pass in turn
+-- the items of each pass of a round, in order: inputs, polls, downloads, priority requests, ticks
 abbrev pub items_of : Streams → List (List Item)
 items_of s =
     map InputTold s.fields.items

@@ -22,14 +22,14 @@ head_fields_at pdu bytes = do
   list ← tagged_at 48 index.1
   if is_some (all_at binding_at 32 list.0) && length list.1 == 0 then Some (record { pdu = pdu; id = id.0; status = status.0; index = index.0 }, c.1) else None
 
--- the same of a PDU of any kind
+-- the head of a PDU of any kind, and the octets after it
 unfoldable pub head_pdu_at : List ℕ → Option (Head × List ℕ)
 head_pdu_at [] = None
 head_pdu_at (tag ∷ rest) = do
   pdu ← kind_of tag
   head_fields_at pdu (tag ∷ rest)
 
--- the head of what is under a message's tag
+-- the head of a message, by the octets under its tag
 unfoldable pub head_content_of : List ℕ → Option Head
 head_content_of content = do
   version ← integer_at content
@@ -37,7 +37,7 @@ head_content_of content = do
   head ← head_pdu_at community.1
   if int_eq version.0 (pos 0) && nat_le (length community.0) 32 && length head.1 == 0 then Some head.0 else None
 
--- the head of a message that is all of the octets
+-- the head of a message, if the octets are this message and nothing else
 unfoldable pub head_at : List ℕ → Option Head
 head_at bytes = do
   c ← tagged_at 48 bytes

@@ -8,14 +8,15 @@ use Rattle.snmp_msg.specs.declared.message.Pdu.TheVariants.{Get, Next, Response,
 use Rattle.snmp_msg.specs.declared.message.Message.{Message}
 use Rattle.snmp_msg.specs.Values.{IsBinding}
 
--- the tags A0 to A3 of the kinds
+-- the tag of a kind of message: A0 to A3 in hexadecimal digits
 abbrev pub tag_of : Pdu → ℕ
 tag_of Get = 160
 tag_of Next = 161
 tag_of Response = 162
 tag_of Set = 163
 
--- under its tag, a PDU is its id, status and index, and at most 32 bindings under tag 48
+-- the text is the PDU of the message: its id, status and index and the list of its bindings, under the tag of its
+-- kind. The list has at most 32 bindings and is under tag 48
 pub record IsPdu (text : List ℕ) (m : Message) : Type 0 where
   pub id : List ℕ
   pub status : List ℕ
@@ -30,7 +31,7 @@ pub record IsPdu (text : List ℕ) (m : Message) : Type 0 where
   pub lists : IsTagged 48 list bindings
   pub whole : IsTagged (tag_of m.pdu) text (id ++ (status ++ (index ++ list)))
 
--- under tag 48, the version 0, a community of at most 32 octets, and a PDU
+-- the text is the message: version 0, a community of at most 32 octets, and a PDU, under tag 48
 pub record IsFramed (text : List ℕ) (m : Message) : Type 0 where
   pub version : List ℕ
   pub community : List ℕ
@@ -41,7 +42,7 @@ pub record IsFramed (text : List ℕ) (m : Message) : Type 0 where
   pub pdus : IsPdu pdu m
   pub whole : IsTagged 48 text (version ++ (community ++ pdu))
 
--- the text is the message, in a frame of at most 1,472 octets
+-- the text is the message, and has at most 1,472 octets
 pub record IsMessage (text : List ℕ) (m : Message) : Type 0 where
   pub framed : IsFramed text m
   pub fits : length text ≤ 1472

@@ -1,8 +1,8 @@
--- A message whose community and bindings are elsewhere.
+-- A message whose community and bindings are stored separately.
 use Rattle.snmp_msg.specs.declared.message.Parts.{Parts}
 use Rattle.snmp_msg.specs.declared.message.Message.{Message}
 
--- the message that has these parts
+-- the message with these parts
 abbrev pub message_in : Parts → Message
 message_in parts = record {
   community = record { items = parts.community.now.items };

@@ -1,4 +1,4 @@
--- What the calls that read compute of the octets. That this is the grammar, the other clauses of `read` say.
+-- What the reading of octets computes. The other clauses of `read` state that this agrees with the grammar.
 use Rattle.std.specs.Prelude.{ℕ, ◌==◌, ◌&&◌, pos, List, [], ◌∷◌, length, Option, Some, None, nat_lt, nat_le, if◌then◌else◌}
 use Rattle.std.specs.Ordering.{int_eq}
 use Rattle.ber_code.specs.Reading.{◌>>=◌, tagged_at, integer_at, name_at, all_at}
@@ -40,7 +40,7 @@ binding_at bytes = do
   value ← value_at name.1
   if length value.1 == 0 then Some (record { name = record { items = name.0 }; value = value.0 }, c.1) else None
 
--- the kind that a tag names
+-- the kind of message with this tag
 unfoldable pub kind_of : ℕ → Option Pdu
 kind_of tag =
     if tag == 160 then Some Get
@@ -49,7 +49,7 @@ kind_of tag =
     else if tag == 163 then Some Set
     else None
 
--- the message of a community and a PDU of this kind, and the octets after it
+-- the message with this community and a PDU of this kind, and the octets after it
 unfoldable pub fields_at : List ℕ → Pdu → List ℕ → Option (Message × List ℕ)
 fields_at community pdu bytes = do
   c ← tagged_at (tag_of pdu) bytes
@@ -60,14 +60,14 @@ fields_at community pdu bytes = do
   binds ← all_at binding_at 32 list.0
   if length list.1 == 0 then Some (record { community = record { items = community }; pdu = pdu; id = id.0; status = status.0; index = index.0; binds = record { items = binds } }, c.1) else None
 
--- the same of a PDU of any kind
+-- the message with this community and a PDU of any kind, and the octets after it
 unfoldable pub pdu_at : List ℕ → List ℕ → Option (Message × List ℕ)
 pdu_at community [] = None
 pdu_at community (tag ∷ rest) = do
   pdu ← kind_of tag
   fields_at community pdu (tag ∷ rest)
 
--- a message of what is under its tag
+-- the message that these octets, which are under its tag, contain
 unfoldable pub content_of : List ℕ → Option Message
 content_of content = do
   version ← integer_at content
@@ -82,7 +82,7 @@ framed_at bytes = do
   m ← content_of c.0
   Some (m, c.1)
 
--- a message that is all of the octets
+-- the message, if the octets are one message of at most 1,472 octets and nothing else
 unfoldable pub message_of : List ℕ → Option Message
 message_of bytes = do
   m ← framed_at bytes

@@ -1,4 +1,5 @@
--- The values of a binding, in the forms that this profile takes (RFC 1155, 3.2.1 and 3.2.2), and the binding (RFC 1157, 4.1.6).
+-- The values of a binding, in the forms that this profile accepts (RFC 1155, 3.2.1 and 3.2.2), and the binding (RFC
+-- 1157, 4.1.6).
 use Rattle.std.specs.Prelude.{ℕ, ◌≤◌, List, [], ◌++◌, length}
 use Rattle.ber_code.specs.Lengths.{IsTagged, IsOctets}
 use Rattle.ber_code.specs.Integers.{IsInteger}
@@ -7,7 +8,7 @@ use Rattle.snmp_msg.specs.declared.message.Value.{Value}
 use Rattle.snmp_msg.specs.declared.message.Value.TheVariants.{Int, Octets, Null, Name}
 use Rattle.snmp_msg.specs.declared.message.Bind.{Bind}
 
--- a NULL (X.690, 8.8) is nothing under tag 5
+-- a NULL (X.690, 8.8) is tag 5 without content
 abbrev pub IsNull : List ℕ → Type 0
 IsNull text = IsTagged 5 text []
 

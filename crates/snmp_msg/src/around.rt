@@ -130,7 +130,8 @@ fn put_around(m: &Parts, list: &[u8], out: &mut Octets) -> Result<(), TooLong>
     }
 }
 
-/// Writes into an empty frame what `write_around` makes. Where the text is too long the frame is left empty.
+/// Writes a message of these parts in its shortest form into an empty frame, with bindings whose texts, one after
+/// another, are `list`, in place of its own. If the text is too long, the frame is left empty.
 pub fn write_around_into(m: &Parts, list: &Octets, out: &mut Octets) -> Result<(), TooLong>
     requires { array_vec_len out.old ≡ 0 }
     ensures variant { IsOk result ↔ (length (message_around (message_in m.now) list.now.items) ≤ 1472) }
@@ -148,17 +149,6 @@ pub fn write_around_slice(m: &Parts, list: &[u8]) -> Result<Octets, TooLong>
     ensures ok { IfOk result (λ text. text.items ≡ message_around (message_in m.now) list.now) }
 {
     let mut out = Octets::new();
-    match put_around(m, list, &mut out) {
-        Ok(()) => Ok(out),
-        Err(TooLong) => Err(TooLong),
-    }
-}
-
-/// Writes a message of these parts in its shortest form, with bindings whose texts, one after another, are `list`, in place of its
-/// own.
-pub fn write_around(m: &Parts, list: &Octets) -> Result<Octets, TooLong>
-    ensures variant { IsOk result ↔ (length (message_around (message_in m.now) list.now.items) ≤ 1472) }
-    ensures ok { IfOk result (λ text. text.items ≡ message_around (message_in m.now) list.now.items) }
-{
-    write_around_slice(m, list.as_slice())
+    put_around(m, list, &mut out)?;
+    Ok(out)
 }

@@ -9,7 +9,7 @@ mod message;
 mod reading;
 mod writing;
 
-pub use around::{write_around, write_around_into, write_around_slice, write_bind};
+pub use around::{write_around_into, write_around_slice, write_bind};
 pub use heads::read_head;
 pub use laws::{messages_stand_alone, shortest_text_is_least};
 pub use message::{Bind, Head, Message, Parts, Pdu, TooLong, Value};

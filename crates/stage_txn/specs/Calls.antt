@@ -1,4 +1,4 @@
--- The calls of a download stage with their answers, and what looking back over them gives. Lists have the newest first.
+-- The calls of a download stage with their answers, and what follows from them. Lists have the newest first.
 use Rattle.std.specs.Prelude.{ℕ, ◌+◌, Bool, List, [], ◌∷◌}
 use Rattle.sig_types.specs.declared.notes.StageAnswer.{StageAnswer}
 use Rattle.sig_types.specs.declared.notes.StageAnswer.TheVariants.{Staged, Verified, Accepted, Refused}
@@ -8,8 +8,8 @@ use Rattle.sig_tables.specs.Cells.{Content}
 use Rattle.sig_tables.specs.Putting.{with_cells}
 use Rattle.sig_tables.specs.Standard.{std8}
 
--- what a stage is called with: the id of the download and what belongs to the call, with the tables in force, and whether the
--- cabinet flashes, where the answer depends on them
+-- a call of a stage, with the id of its download. `in_force` are the tables in force at this moment, and `flashing`
+-- says whether the cabinet flashes
 pub data Call : Type 0 where
   Begin : (id : ℕ) → (in_force : Tables) → Call
   Part : (id : ℕ) → (number : ℕ) → (cells : List (Cell × Content)) → Call
@@ -21,8 +21,8 @@ pub record Answered : Type 0 where
   pub call : Call
   pub answer : StageAnswer
 
--- what a call that was answered did to the stage: it began a download over these tables, took a part with these cells, found
--- the staged tables fit, had them installed, opened them again, or did nothing
+-- what an answered call did to the stage. It began a download over the tables in force, took a part with these cells,
+-- closed the stage because the staged tables fit, installed them, opened the stage again, or did nothing
 pub data Deed : Type 0 where
   Began : (id : ℕ) → (in_force : Tables) → Deed
   Took : (cells : List (Cell × Content)) → Deed
@@ -74,7 +74,7 @@ kept_by (Installed ∷ past) = kept_by past
 kept_by (Reopened ∷ past) = kept_by past
 kept_by (Idle ∷ past) = kept_by past
 
--- the number of parts taken since then
+-- the number of parts taken since the last begin
 abbrev pub taken_by : List Deed → ℕ
 taken_by [] = 0
 taken_by (Began id in_force ∷ past) = 0
@@ -84,7 +84,8 @@ taken_by (Installed ∷ past) = taken_by past
 taken_by (Reopened ∷ past) = taken_by past
 taken_by (Idle ∷ past) = taken_by past
 
--- the tables in force at that begin with the cells of the parts taken since put in order; the standard tables where nothing began
+-- the tables in force at the last begin, with the cells of the parts taken since then put in, in order; the standard
+-- tables if no download began
 abbrev pub staged_by : List Deed → Tables
 staged_by [] = std8
 staged_by (Began id in_force ∷ past) = in_force

@@ -1,4 +1,4 @@
--- What the answers of a stage promise to who puts tables in force. Lists have the newest first.
+-- What the answers of a stage promise to the caller that puts tables in force. Lists have the newest first.
 use Rattle.std.specs.Prelude.{ℕ, ◌≡◌, ◌≢◌, ◌+◌, Bool, List, [], ◌∷◌, Ok}
 use Rattle.sig_types.specs.declared.notes.StageAnswer.TheVariants.{Staged, Accepted}
 use Rattle.sig_tables.specs.declared.tables.Tables.{Tables}
@@ -9,18 +9,18 @@ use Rattle.stage_txn.specs.declared.StageState.TheVariants.{Open, Checked, Done}
 use Rattle.stage_txn.specs.Calls.{Call, Answered, Begin, Part, Verify, Finish}
 use Rattle.stage_txn.specs.Answers.{kept, taken, staged, stage_state, answer_to, first_broken}
 
--- the part is the next of the download that was begun last, and the stage is open
+-- the part is the next part of the last download that began, and the stage is open
 pub record IsNext (past : List Answered) (id number : ℕ) : Type 0 where
   pub same : id ≡ kept past
   pub part : number ≡ taken past + 1
   pub stands : stage_state past ≡ Open
 
--- a part that is taken is the next one of the download that is open
+-- a part is only accepted as the next part of the open download
 abbrev pub PartsComeInOrder : List Answered → Type 0
 PartsComeInOrder past =
     (id number : ℕ) (cells : List (Cell × Content)) → answer_to past (Part id number cells) ≡ Staged → IsNext past id number
 
--- the staged tables were verified, and break no rule together with these in force
+-- the staged tables were verified, and they break no rule together with these tables in force
 pub record KeepsRules (past : List Answered) (id : ℕ) (in_force : Tables) (flashing : Bool) : Type 0 where
   pub same : id ≡ kept past
   pub stands : stage_state past ≡ Checked
@@ -36,7 +36,7 @@ pub record IsQuiet (past : List Answered) : Type 0 where
   pub part : (id number : ℕ) (cells : List (Cell × Content)) → answer_to past (Part id number cells) ≢ Staged
   pub finish : (id : ℕ) (in_force : Tables) (flashing : Bool) → answer_to past (Finish id in_force flashing) ≢ Accepted
 
--- nothing more is staged or put in force where the stage is done
+-- if the stage is done, nothing more is staged or put in force
 abbrev pub NothingAfterDone : List Answered → Type 0
 NothingAfterDone past = stage_state past ≡ Done → IsQuiet past
 

@@ -1,10 +1,10 @@
--- That a stage represents the calls that were made of it.
+-- What a stage represents: its calls so far.
 use Rattle.std.specs.Prelude.{◌≡◌, List}
 use Rattle.stage_txn.specs.declared.Stage.{Stage}
 use Rattle.stage_txn.specs.Calls.{Call, Answered}
 use Rattle.stage_txn.specs.Answers.{kept, taken, staged, stage_state, answered, last_answer}
 
--- what the stage keeps is what looking back gives
+-- the stage agrees with these answered calls
 pub record StageKeeps (s : Stage) (past : List Answered) : Type 0 where
   pub kept : s.kept ≡ kept past
   pub taken : s.taken ≡ taken past

@@ -4,7 +4,7 @@ use Rattle.trace_check.specs.declared.faults.TraceFault.{TraceFault}
 use Rattle.trace_laws.specs.Traces.{IsTrace, IsCheckable}
 use Rattle.trace_laws.specs.Faults.{FirstFault, TooLong}
 use Rattle.trace_laws.specs.Laws.{FaultsAreDetermined, TracesHaveNoFault, TellsOfRun}
-use Rattle.band_laws.specs.Driving.{BandIsGreen}
+use Rattle.trace_laws.specs.BandDriving.{BandIsGreen}
 use Rattle.station.specs.declared.status.Status.{Status}
 use Rattle.station.specs.declared.status.Status.TheVariants.{Done, Usage, Scenario, NotATrace, Overlap as BrokenOverlap, Unsafe, NotALog, ReadFault, WriteFault, NoMemory}
 use Rattle.station.specs.Bytes.{AreInput, nothing_left}

@@ -7,7 +7,7 @@ use Rattle.scenario_data.specs.declared.refusal.Refusal.{Refusal}
 use Rattle.scenario_data.specs.declared.refusal.Refusal.TheVariants.{Syntax, Field, Limit, Broken}
 use Rattle.scenario_read.proofs.OneAnswer.{no-fault-beside, one-scenario}
 use Rattle.session_words.specs.Lines.{first_line}
-use Rattle.session_laws.specs.Dialogue.{early_priority, early_path, order_fault, IsByRounds, IsOrderFault}
+use Rattle.run_definition.specs.SessionDialogue.{early_priority, early_path, order_fault, IsByRounds, IsOrderFault}
 use Rattle.station.specs.declared.status.Status.{Status}
 use Rattle.station.specs.declared.status.Status.TheVariants.{Done, Usage, Scenario, NotATrace, Overlap as BrokenOverlap, Unsafe, NotALog, ReadFault, WriteFault, NoMemory}
 use Rattle.station.specs.Io.{io}

@@ -9,7 +9,7 @@ use Rattle.scenario_data.specs.Content.{ScenarioContent}
 use Rattle.scenario_read.specs.Answers.{IsScenario, IsFirstFault}
 use Rattle.scenario_read.proofs.LimitNames.{limit-elsewhere}
 use Rattle.session_words.specs.Lines.{first_line}
-use Rattle.session_laws.specs.Dialogue.{early_load, early_priority, early_path, round_path, IsOrderFault}
+use Rattle.run_definition.specs.SessionDialogue.{early_load, early_priority, early_path, round_path, IsOrderFault}
 use Rattle.station.specs.Bytes.{AreInput, nothing_left}
 use Rattle.station.specs.Answers.{IsRead, IsLengthLimit, IsRefused}
 use Rattle.station.specs.Lived.{IsFirstLineFault, IsLineRefused}

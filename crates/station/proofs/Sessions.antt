@@ -9,14 +9,14 @@ use Rattle.scenario_data.specs.Content.{ScenarioContent}
 use Rattle.session_words.specs.Lines.{behind_first, whole_lines}
 use Rattle.session_words.proofs.Cuts.{whole_lines-cut, whole_lines-none}
 use Rattle.session_words.specs.Unread.{GivesLine, HasNoLine, PassesLong}
-use Rattle.session_laws.specs.Session.{SessionHistory, opened_session, is_over}
-use Rattle.session_laws.specs.Answers.{Answer, Lines, NotTaken, answer_to, answers_from, end_of_input_lines, next_session, open_lines}
-use Rattle.session_laws.specs.Dialogue.{answer_text, answers_text, dot, requests_in, session_text}
+use Rattle.run_definition.specs.Session.{SessionHistory, opened_session, is_over}
+use Rattle.run_definition.specs.SessionAnswers.{Answer, Lines, NotTaken, answer_to, answers_from, end_of_input_lines, next_session, open_lines}
+use Rattle.run_definition.specs.SessionDialogue.{answer_text, answers_text, dot, requests_in, session_text}
 use Rattle.live_session.specs.declared.session.Session.{Session}
 use Rattle.live_session.specs.Standing.{SessionStands}
 use Rattle.station.specs.declared.status.Status.{Status}
 use Rattle.station.specs.declared.status.Status.TheVariants.{Done, Usage, Scenario, NotATrace, Overlap as BrokenOverlap, Unsafe, NotALog, ReadFault, WriteFault, NoMemory}
-use Rattle.session_laws.specs.Laws.{SessionIsRun}
+use Rattle.run_definition.specs.SessionLaws.{SessionIsRun}
 use Rattle.station.specs.Io.{io}
 use Rattle.station.specs.Answers.{WritesText}
 use Rattle.station.specs.Lived.{Lived, LivesShort}

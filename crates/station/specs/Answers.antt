@@ -14,7 +14,8 @@ use Rattle.run_definition.specs.Lines.{run_text}
 use Rattle.trace_laws.specs.Text.{TellsAllKept}
 use Rattle.whole_run.specs.Orders.{AreBroughtBy, GoesOnSerially, closed_text}
 
--- a text was written completely; or a write failed, and a proper prefix of the text was written
+-- if the status is Done, the whole text was written. If it is WriteFault, a write failed, and a proper prefix of the
+-- text was written. No other status is possible
 abbrev pub WritesText : Status → List ℕ → Type 0 → Option (List ℕ) → Option (List ℕ) → Type 0
 WritesText Done text unwritten old new = Appends old new text
 WritesText WriteFault text unwritten old new = unwritten × AppendsFront old new text
@@ -24,7 +25,7 @@ WritesText _ text unwritten old new = ⊥
 abbrev pub IsShort : List ℕ → Type 0
 IsShort input = length input ≤ 16777216
 
--- the input is a scenario with this content, within the limit
+-- the input is within the limit, and it is a scenario with content `s`
 abbrev pub IsRead : Option (List ℕ) → ScenarioContent → Type 0
 IsRead left s = (bytes : List ℕ) × AreInput left bytes × IsShort bytes × IsScenario bytes s
 
@@ -32,9 +33,9 @@ IsRead left s = (bytes : List ℕ) × AreInput left bytes × IsShort bytes × Is
 abbrev pub IsNoScenario : List ℕ → Type 0
 IsNoScenario input = (s : ScenarioContent) → IsScenario input s → ⊥
 
--- a run by that many workers is done: the source, which had this left, was read to its end; its bytes are a scenario;
--- with journals that such workers may bring about, which without workers are the serial ones, the whole text of the run
--- was appended to the sink; and by the lines of this text every street is safe, versions are whole, the tables in force
+-- a run by that many workers is complete. The source was read to its end, and its bytes are a scenario. The whole
+-- text of the run was appended to the sink, with some journals that these workers may produce. (Without workers these
+-- are the serial journals.) By the lines of this text every street is safe, versions are whole, the tables in force
 -- are those of whole accepted downloads, and coordination is met
 pub record RunsWhole (workers : ℕ) (left ends old new : Option (List ℕ)) : Type 0 where
   pub scenario : ScenarioContent
@@ -45,9 +46,10 @@ pub record RunsWhole (workers : ℕ) (left ends old new : Option (List ℕ)) : T
   pub written : Appends old new (run_text scenario journals)
   pub kept : TellsAllKept scenario journals (run_text scenario journals)
 
--- it stopped while it wrote: the source was read to its end, its bytes are a scenario, and a proper prefix of the text
--- of such a run was appended. That run has some journals for the rounds that were closed and serial ones for those that
--- are left; if some are left, nothing was written beyond the lines of the closed ones
+-- a run stopped while it wrote. The source was read to its end, its bytes are a scenario, and a proper prefix of the
+-- text of a run was appended to the sink. The first rounds of this run are closed, with journals that the workers may
+-- produce; the other rounds have their serial journals. If there are other rounds, no lines after those of the closed
+-- rounds were written
 pub record StopsShort (workers : ℕ) (left ends old new : Option (List ℕ)) : Type 0 where
   pub scenario : ScenarioContent
   pub journals : List (List (List ℕ))
@@ -59,18 +61,19 @@ pub record StopsShort (workers : ℕ) (left ends old new : Option (List ℕ)) : 
   pub goes_on : GoesOnSerially scenario closed journals
   pub within : 0 < goes_on.left → AppendsUpTo old new (closed_text scenario closed)
 
--- the refusal is that of the whole input, for its length
+-- the refusal is that of an input that is too long: its kind is Limit, and its path is `.`
 abbrev pub IsLengthLimit : Refusal → Type 0
 IsLengthLimit Syntax = ⊥
 IsLengthLimit (Field path) = ⊥
 IsLengthLimit (Limit path) = string_bytes path ≡ codes "."
 IsLengthLimit (Broken cabinet rule row) = ⊥
 
--- the input is too long: it was read to one byte past the limit
+-- the input has more than 16,777,216 bytes, and the source was read to one byte past this limit
 abbrev pub IsTooLong : Option (List ℕ) → Option (List ℕ) → Type 0
 IsTooLong left ends = IfSome left (λ input. (16777216 < length input) × (ends ≡ Some (drop 16777217 input)))
 
--- the input was read to its end, and this is its first fault, by what a first fault is of inputs of its kind
+-- the input is within the limit and was read to its end, and this refusal names its first fault. `IsFirst` defines
+-- the first fault of this kind of input
 pub record HasFault (IsFirst : List ℕ → Refusal → Type 0) (refusal : Refusal) (left ends : Option (List ℕ)) : Type 0 where
   pub bytes : List ℕ
   pub all : AreInput left bytes
@@ -78,13 +81,13 @@ pub record HasFault (IsFirst : List ℕ → Refusal → Type 0) (refusal : Refus
   pub first : IsFirst bytes refusal
   pub ended : ends ≡ nothing_left left
 
--- why an input is refused, and what is left of the input: its length, which has its own refusal; or else its first
--- fault
+-- the input is refused, and `ends` is what is left of it. Either the input is too long and the refusal says so, or
+-- the refusal names its first fault
 abbrev pub IsRefused : (List ℕ → Refusal → Type 0) → Refusal → Option (List ℕ) → Option (List ℕ) → Type 0
 IsRefused IsFirst refusal left ends =
     (IsLengthLimit refusal × IsTooLong left ends) ⊎ ((IsLengthLimit refusal → ⊥) × HasFault IsFirst refusal left ends)
 
--- what an answer to a run by that many workers says about the input and the output
+-- what an answer to `run` with that many workers says about the input and the output, status by status
 abbrev pub Ran : ℕ → Status → Io → Type 0
 Ran workers Done io = RunsWhole workers io.left io.ends io.old io.new
 Ran workers (Scenario refusal) io = IsRefused IsFirstFault refusal io.left io.ends × (io.new ≡ io.old)
@@ -93,7 +96,7 @@ Ran workers WriteFault io = io.unwritten × StopsShort workers io.left io.ends i
 Ran workers NoMemory io = (io.new ≡ io.old) ⊎ StopsShort workers io.left io.ends io.old io.new
 Ran workers _ io = ⊥
 
--- the answer is the refusal of the whole input for its length
+-- the answer is the refusal of an input that is too long
 abbrev pub IsLengthRefusal : Status → Type 0
 IsLengthRefusal (Scenario refusal) = IsLengthLimit refusal
 IsLengthRefusal _ = ⊥
@@ -102,14 +105,14 @@ IsLengthRefusal _ = ⊥
 abbrev pub NamesFault : (List ℕ → Refusal → Type 0) → Status → List ℕ → Type 0
 NamesFault IsFirst status input = (refusal : Refusal) × (status ≡ Scenario refusal) × IsFirst input refusal
 
--- the answer to `run` that is expected for an input if no read fails: for an input that is too long, for one that is
--- not a scenario, and for a scenario
+-- the answer to `run` that is expected if no read fails. An input that is too long is refused for its length. An
+-- input that is not a scenario is refused for its first fault. For a scenario the answer is Done if no write fails
 pub record IsDue (status : Status) (input : List ℕ) (unwritten : Type 0) : Type 0 where
   pub too_long : 16777216 < length input → IsLengthRefusal status
   pub fault : IsShort input → IsNoScenario input → NamesFault IsFirstFault status input
   pub done : IsShort input → (s : ScenarioContent) → IsScenario input s → ¬ unwritten → status ≡ Done
 
--- what an answer to a run says; if no read fails, it is the one expected for the input, or memory ran out
+-- what an answer to `run` says. If no read fails, the answer is the one expected for the input, or memory ran out
 pub record RunAnswer (workers : ℕ) (status : Status) (io : Io) : Type 0 where
   pub told : Ran workers status io
   pub due : ¬ io.unread → IfSome io.left (λ input. IsDue status input io.unwritten ⊎ (status ≡ NoMemory))

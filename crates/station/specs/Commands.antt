@@ -28,15 +28,15 @@ use Rattle.station.specs.Lived.{IsFirstLineFault, IsLineRefused, LivesShort, Liv
 use Rattle.station.specs.declared.status.LogFault.{LogFault}
 use Rattle.station.specs.Judged.{EndsLog, IsHeadFault, JudgeAnswer}
 
--- a text that the program makes was written completely; or a write failed, and a proper prefix of it was written; or
--- there was not enough memory to make it, and nothing was written
+-- a status about a text that the program generates. Done: the whole text was written. WriteFault: a write failed, and
+-- a proper prefix of the text was written. NoMemory: memory ran out, and nothing was written
 abbrev pub MakesText : Status → List ℕ → Type 0 → Option (List ℕ) → Option (List ℕ) → Type 0
 MakesText Done text unwritten old new = Appends old new text
 MakesText WriteFault text unwritten old new = unwritten × AppendsFront old new text
 MakesText NoMemory text unwritten old new = new ≡ old
 MakesText _ text unwritten old new = ⊥
 
--- what an answer to a command says about the input and the output, and which answer is expected
+-- what an answer to a command says about the input and the output, command by command
 abbrev pub Answered : Command → Status → Io → Type 0
 Answered (Run workers) status io = RunAnswer workers status io
 Answered Check status io = (io.new ≡ io.old) × CheckAnswer status io
@@ -61,8 +61,8 @@ ReadsNothing Live = ⊥
 ReadsNothing (Judge terms) = ⊥
 ReadsNothing _ = Unit {0}
 
--- why an input is refused: the words run a scenario, ask for bands, give a field file, open a session or have a log
--- judged, and the refusal is one of such an input
+-- the words are a command that reads an input, and the command refuses its input for this reason. `run`, `band` and
+-- `respond` refuse the whole input; `live` and `judge` refuse its first line
 abbrev pub IsRefusedFor : List (List ℕ) → Refusal → Option (List ℕ) → Option (List ℕ) → Type 0
 IsRefusedFor words refusal left ends =
     (((workers : ℕ) × IsRun words workers) × IsRefused IsFirstFault refusal left ends)
@@ -71,26 +71,27 @@ IsRefusedFor words refusal left ends =
     ⊎ ((IsLive words × IsLineRefused IsFirstLineFault refusal left)
     ⊎ (((terms : Terms) × IsJudge words terms) × IsLineRefused IsHeadFault refusal left))))
 
--- a session that stopped short has left this
+-- the words are `live`, and the session stopped before its whole text was written
 abbrev pub LeavesSession : List (List ℕ) → Io → Type 0
 LeavesSession words io = IsLive words × LivesShort io.left io.old io.new
 
--- the judging of a log that stopped short, with this answer, has left this
+-- the words are `judge ..`, and the judging of the log ended with this status
 abbrev pub LeavesLog : List (List ℕ) → Status → Io → Type 0
 LeavesLog words status io = (terms : Terms) × IsJudge words terms × EndsLog terms status io
 
--- and a run of a scenario this
+-- the words are `run ..`, and the run stopped before its whole text was written
 abbrev pub LeavesRun : List (List ℕ) → Io → Type 0
 LeavesRun words io = (workers : ℕ) × IsRun words workers × StopsShort workers io.left io.ends io.old io.new
 
--- the words ask for what reads nothing
+-- the words are a command that reads nothing
 abbrev pub NeedsNoInput : List (List ℕ) → Type 0
 NeedsNoInput words = (command : Command) × AskFor words command × ReadsNothing command
 
--- the cause of each answer, for any words. Out of memory: nothing was written, or a run, a session or a judging stopped
--- while it wrote. A failed read: nothing was written, or a session or a judging stopped. Each refusal: nothing was
--- written; it names the first fault of the input that `run`, `band` or `respond` read, or of the first line that `live`
--- or `judge` read. The path `.` with `Limit` means the length of the input or of the line, and no other fault has it.
+-- the cause of each failure, for any words. If memory ran out, nothing was written, or a run, a session or a judging
+-- stopped while it wrote. If a read failed, nothing was written, or a session or a judging stopped. If the input was
+-- refused, nothing was written. The refusal names the first fault of the input of `run`, `band` or `respond`, or of
+-- the first line of `live` or `judge`. The path `.` with Limit means only that the input or the line is too long. The
+-- other four statuses are answers to `check`, `overlaps` or `judge`
 pub record Causes (words : List (List ℕ)) (status : Status) (io : Io) : Type 0 where
   pub no_memory : status ≡ NoMemory → (io.new ≡ io.old) ⊎ (LeavesRun words io ⊎ (LeavesSession words io ⊎ LeavesLog words NoMemory io))
   pub read_fault : status ≡ ReadFault → io.unread × ((io.new ≡ io.old) ⊎ (LeavesSession words io ⊎ LeavesLog words ReadFault io))
@@ -100,10 +101,10 @@ pub record Causes (words : List (List ℕ)) (status : Status) (io : Io) : Type 0
   pub unsafe : status ≡ Unsafe → (terms : Terms) × IsJudge words terms
   pub no_log : (fault : LogFault) → status ≡ NotALog fault → (terms : Terms) × IsJudge words terms
 
--- what an answer says, by the words. Help and version: the whole text was written, or a write failed and a prefix of it
--- was written. Generate: the same holds for the text of the scenario that these numbers give, or there was not enough
--- memory to make it. Survey: the same holds for the totals of a run of that scenario, counted in the lines of its trace
--- in the serial order.
+-- what an answer says, for any words: one fact for each command. Help and version: the whole text was written, or a
+-- write failed and a proper prefix of it was written. Generate: the same holds for the text of the generated
+-- scenario; if memory runs out, nothing is written. Survey: the same holds for the totals of a run of the generated
+-- scenario. They are counted in the lines of its trace in the serial order.
 pub record Answers (words : List (List ℕ)) (status : Status) (io : Io) : Type 0 where
   pub help : IsHelp words → WritesText status HELP.now io.unwritten io.old io.new
   pub version : IsVersion words → WritesText status VERSION.now io.unwritten io.old io.new

@@ -20,28 +20,28 @@ use Rattle.station.specs.Io.{Io}
 use Rattle.station.specs.Answers.{IsShort, IsLengthRefusal, NamesFault}
 use Rattle.station.specs.Lived.{IsLineRefused}
 
--- the first line of a log: `S `, and then a scenario
+-- the first line of a log with this scenario text: `S ` and then the text
 abbrev pub headed : List ℕ → List ℕ
 headed bytes = 83 ∷ 32 ∷ bytes
 
--- a line is one with a scenario with this content, within the limit of 16,777,216 bytes
+-- the line is `S ` and then a scenario with content `s`, and has at most 16,777,216 bytes
 pub record IsHead (line : List ℕ) (s : ScenarioContent) : Type 0 where
   pub bytes : List ℕ
   pub text : line ≡ headed bytes
   pub short : IsShort line
   pub scenario : IsScenario bytes s
 
--- the first fault of a first line: that of its scenario, or that it doesn't begin with `S `
+-- the first fault of a first line: the first fault of its scenario, or Syntax if the line doesn't begin with `S `
 abbrev pub IsHeadFault : List ℕ → Refusal → Type 0
 IsHeadFault line refusal =
     ((bytes : List ℕ) × (line ≡ headed bytes) × IsFirstFault bytes refusal)
     ⊎ (((bytes : List ℕ) → line ≡ headed bytes → ⊥) × (refusal ≡ Syntax))
 
--- the lines after the first
+-- the lines of the input after its first line
 abbrev pub log_lines : List ℕ → List (List ℕ)
 log_lines input = whole_lines (behind_first input)
 
--- the lines after the first line of the input are these, if the source reports its bytes
+-- `lines` are the lines after the first line of the input, if the source reports its bytes
 abbrev pub AreLogLines : Option (List ℕ) → List (List ℕ) → Type 0
 AreLogLines left lines = IfSome left (λ input. lines ≡ log_lines input)
 
@@ -51,7 +51,8 @@ pub record HasHead (left : Option (List ℕ)) (s : ScenarioContent) : Type 0 whe
   pub first : IfSome left (λ input. line ≡ first_line input)
   pub head : IsHead line s
 
--- all lines are a log, and their whole report was appended. The lines that were read have the newest first
+-- all lines after the first are a log, and its whole report was appended. `before` has the lines of the log, the
+-- newest first
 pub record JudgesWhole (terms : Terms) (left old new : Option (List ℕ)) (s : ScenarioContent) : Type 0 where
   pub lines : List (List ℕ)
   pub before : List Line
@@ -59,23 +60,25 @@ pub record JudgesWhole (terms : Terms) (left old new : Option (List ℕ)) (s : S
   pub log : IsLog s lines before
   pub written : Appends old new (judged_text s terms before)
 
--- a log without a breach: judged to the tick and from tick 0 on, the street of each cabinet is safe as far as its tables are known;
--- with all tables known, it is safe
+-- the whole log was judged and has no breach. If it was judged exactly (tolerance 0, from tick 0 on), each street is
+-- safe as far as its tables are known. If all tables are known, each street is safe
 pub record IsSafeLog (terms : Terms) (left old new : Option (List ℕ)) (s : ScenarioContent) : Type 0 where
   pub whole : JudgesWhole terms left old new s
   pub none : log_found s terms whole.before ≡ []
   pub so_far : terms ≡ exact → SafeSoFar s whole.before
   pub safe : terms ≡ exact → AllKnown s whole.before → AllSafe s whole.before
 
--- a log with breaches: judged so, the street of some cabinet is not safe
+-- the whole log was judged and has a breach. If it was judged exactly, not every street is safe as far as its tables
+-- are known. If all tables are known, not every street is safe
 pub record IsUnsafeLog (terms : Terms) (left old new : Option (List ℕ)) (s : ScenarioContent) : Type 0 where
   pub whole : JudgesWhole terms left old new s
   pub some : log_found s terms whole.before ≢ []
   pub so_far : terms ≡ exact → SafeSoFar s whole.before → ⊥
   pub unsafe : terms ≡ exact → AllKnown s whole.before → AllSafe s whole.before → ⊥
 
--- the line with this number is the first that can't follow: the lines before it are a log, and their report was appended. The
--- place of a line is counted from 0, after the first line of the input, which has number 1
+-- the line with this number is the first that can't follow: the lines before it are a log, and their report was
+-- appended. `place` counts the lines after the first line of the input, from 0; the first line of the input has
+-- number 1
 pub record StopsAt (terms : Terms) (fault : LogFault) (left old new : Option (List ℕ)) (s : ScenarioContent) : Type 0 where
   pub lines : List (List ℕ)
   pub place : ℕ
@@ -85,7 +88,7 @@ pub record StopsAt (terms : Terms) (fault : LogFault) (left old new : Option (Li
   pub number : fault.line ≡ place + 2
   pub written : Appends old new (log_report s terms before)
 
--- it stopped: the first lines are a log, and a proper prefix of their report was appended
+-- the judging stopped: the lines `bytes` are a log, and a proper prefix of their report was appended
 pub record JudgesShort (terms : Terms) (left old new : Option (List ℕ)) (s : ScenarioContent) : Type 0 where
   pub bytes : List (List ℕ)
   pub before : List Line
@@ -94,7 +97,7 @@ pub record JudgesShort (terms : Terms) (left old new : Option (List ℕ)) (s : S
   pub log : IsLog s bytes before
   pub front : AppendsFront old new (judged_text s terms before)
 
--- how the judging of a log of this scenario ends
+-- how the judging of a log of this scenario ended, status by status
 abbrev pub LogEnds : Terms → Status → Type 0 → Type 0 → Option (List ℕ) → Option (List ℕ) → Option (List ℕ) → ScenarioContent → Type 0
 LogEnds terms Done unread unwritten left old new s = IsSafeLog terms left old new s
 LogEnds terms Unsafe unread unwritten left old new s = IsUnsafeLog terms left old new s
@@ -104,7 +107,7 @@ LogEnds terms WriteFault unread unwritten left old new s = unwritten × JudgesSh
 LogEnds terms NoMemory unread unwritten left old new s = JudgesShort terms left old new s
 LogEnds terms _ unread unwritten left old new s = ⊥
 
--- the first line of the input has a scenario, and the judging of the log of it ended so
+-- the first line of the input has a scenario, and the judging of its log ended with this status
 pub record EndsLog (terms : Terms) (status : Status) (io : Io) : Type 0 where
   pub scenario : ScenarioContent
   pub head : HasHead io.left scenario
@@ -125,8 +128,9 @@ Judged terms _ io = ⊥
 abbrev pub IsNoHead : List ℕ → Type 0
 IsNoHead line = (s : ScenarioContent) → IsHead line s → ⊥
 
--- the answer to `judge` that is expected for an input if no read fails: for a first line that is too long, for one without a
--- scenario, for a log with no breach, for one with breaches, and for lines of which one can't follow
+-- the answer to `judge` that is expected if no read fails. A first line that is too long is refused for its length. A
+-- first line without a scenario is refused for its first fault. A log without a breach is answered with Done, and a
+-- log with breaches with Unsafe. If the lines aren't a log, the answer names the first line that can't follow
 pub record IsJudgeDue (terms : Terms) (status : Status) (input : List ℕ) (unwritten : Type 0) : Type 0 where
   pub too_long : 16777216 < length (first_line input) → IsLengthRefusal status
   pub fault : IsShort (first_line input) → IsNoHead (first_line input) → NamesFault IsHeadFault status (first_line input)
@@ -137,7 +141,7 @@ pub record IsJudgeDue (terms : Terms) (status : Status) (input : List ℕ) (unwr
   pub stopped : (s : ScenarioContent) (place : ℕ) (before : List Line) (fault : LogFault) → IsHead (first_line input) s
       → LogStops s (log_lines input) place before fault.fault → fault.line ≡ place + 2 → ¬ unwritten → status ≡ NotALog fault
 
--- what an answer to `judge` says; if no read fails, it is the one expected for the input, or memory ran out
+-- what an answer to `judge` says. If no read fails, the answer is the one expected for the input, or memory ran out
 pub record JudgeAnswer (terms : Terms) (status : Status) (io : Io) : Type 0 where
   pub told : Judged terms status io
   pub due : ¬ io.unread → IfSome io.left (λ input. IsJudgeDue terms status input io.unwritten ⊎ (status ≡ NoMemory))

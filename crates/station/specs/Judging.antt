@@ -1,4 +1,4 @@
--- What is between two lines of a log that `judge` reads.
+-- The state between two lines of a log that `judge` reads.
 use Rattle.std.specs.Prelude.{◌≡◌, ◌≤◌, ◌+◌, ◌⊎◌, ℕ, Bool, true, false, List, [], ◌∷◌, ◌++◌, length, Option}
 use Rattle.io_edge.specs.Edge.{Appends}
 use Rattle.trace_text.specs.declared.lines.Line.{Line}
@@ -15,12 +15,12 @@ use Rattle.station.specs.declared.status.Status.TheVariants.{NotALog, ReadFault,
 use Rattle.station.specs.Living.{AreAhead}
 use Rattle.station.specs.Judged.{HasHead}
 
--- the first line of the input has a scenario with this content, and this is left after it
+-- the first line of the input has a scenario with this content, and these bytes are left after it
 pub record IsHeadRead (left behind : Option (List ℕ)) (s : ScenarioContent) : Type 0 where
   pub head : HasHead left s
   pub rest : behind ≡ behind_told left
 
--- these lines of the input were judged, their report was written, and the judge has reached this state by them; the next line has
+-- these lines of the input were judged, their report was written, and the judge has this state; the next line has
 -- this number
 pub record IsJudging (left ahead old new : Option (List ℕ)) (s : ScenarioContent) (terms : Terms) (judge : LogJudge) (number : ℕ) : Type 0 where
   pub bytes : List (List ℕ)
@@ -31,7 +31,7 @@ pub record IsJudging (left ahead old new : Option (List ℕ)) (s : ScenarioConte
   pub number_is : number ≡ length bytes + 2
   pub written : Appends old new (log_report s terms before)
 
--- the next line is one more of the log, and the text is its report
+-- the next line is one more line of the log, and the text is its report
 pub record JudgesLine (over : Bool) (s : ScenarioContent) (terms : Terms) (before : List Line) (judge : LogJudge) (ahead behind : Option (List ℕ)) (text : List ℕ) : Type 0 where
   pub line : List ℕ
   pub next : GivesLine ahead behind line
@@ -41,7 +41,7 @@ pub record JudgesLine (over : Bool) (s : ScenarioContent) (terms : Terms) (befor
   pub report : log_report s terms after ≡ log_report s terms before ++ text
   pub over_is : over ≡ false
 
--- no line follows: the text is the report at the end of the log
+-- no line follows, and the text is the report at the end of the log
 pub record JudgesEnd (over : Bool) (s : ScenarioContent) (terms : Terms) (before : List Line) (judge : LogJudge) (ahead : Option (List ℕ)) (text : List ℕ) : Type 0 where
   pub none : HasNoLine ahead
   pub stands : JudgeStands judge s terms before
@@ -52,7 +52,7 @@ abbrev pub JudgesNext : Bool → ScenarioContent → Terms → List Line → Log
 JudgesNext over s terms before judge ahead behind text =
     JudgesLine over s terms before judge ahead behind text ⊎ JudgesEnd over s terms before judge ahead text
 
--- the next line, which has this number, can't follow
+-- the next line, which has this number, can't follow the lines before it
 pub record RefusesNext (fault : LogFault) (number : ℕ) (s : ScenarioContent) (before : List Line) (ahead behind : Option (List ℕ)) : Type 0 where
   pub line : List ℕ
   pub next : GivesLine ahead behind line
@@ -67,7 +67,7 @@ StopsReading ReadFault unread Refuses = unread
 StopsReading NoMemory unread Refuses = Unit {0}
 StopsReading _ unread Refuses = ⊥
 
--- a judging that has continued from an earlier state of it
+-- the judging has continued from an earlier state
 pub record JudgingGoesOn (from now : LogJudge) (ahead_from ahead written_from written : Option (List ℕ)) (number : ℕ) : Type 0 where
   pub stands : (s : ScenarioContent) × (terms : Terms) × (before : List Line) × JudgeStands now s terms before
   pub goes : (left old : Option (List ℕ)) (s : ScenarioContent) (terms : Terms) → IsJudging left ahead_from old written_from s terms from 2

@@ -7,7 +7,7 @@ ghost use Rattle.station.specs.Checked.{Checked, IsCheckDue};
 
 use crate::bytes::{ReadEnd, read_all};
 use crate::status::Status;
-use band_laws::bands_are_green;
+use trace_laws::bands_are_green;
 use io_edge::Source;
 use std::alloc::Global;
 use trace_check::{CheckFail, TraceFault, check};

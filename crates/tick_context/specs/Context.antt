@@ -1,4 +1,4 @@
--- What both engines keep in addition to past frames is what the past gives.
+-- What both engines store apart from past frames, and what it represents.
 use Rattle.std.specs.Prelude.{ℕ, ◌≡◌, ◌<◌, ◌≤◌, true, length}
 use Rattle.sig_tables.specs.Slots.{cycle_time}
 use Rattle.sig_tables.specs.Choosing.{is_in_step}
@@ -20,8 +20,9 @@ use Rattle.tick_context.specs.declared.context.TickContext.{TickContext}
 abbrev pub told_ticks : TickContext → ℕ
 told_ticks c = counted_ticks c.unit_commands
 
--- the tables in force, the last frame and what was reported are what the past gives. Of the past itself: there is a
--- moment; the last frame names phases, or nothing; start-up is over after 60 frames, and no frame is of tables to come
+-- the context represents the past: the tables in force, the last frame, and what has arrived. The past has a moment.
+-- The last frame's entry for each ring is a phase or 0. Start-up is over after 60 frames, and no frame has a later
+-- version
 pub record ContextStands (c : TickContext) (past : Past) : Type 0 where
   pub tables : c.tables ≡ past.tables
   pub layout : LaidOut c.layout past.tables
@@ -37,11 +38,11 @@ pub record ContextStands (c : TickContext) (past : Past) : Type 0 where
   pub few_start : start_run past.moments ≤ 60
   pub old_frame : (frame_seen past).version ≤ past.version
 
--- coordinated in pattern n the counters since the pickup are counted, and the last is within the cycle
+-- in Coord of pattern n, the count represents the counters since the pickup, and the last one is within the cycle
 pub record CountsOn (count : Count) (past : Past) (n : ℕ) : Type 0 where
   pub stands : CountStands count (counters_since n past.version past.moments)
   pub within : counter_of count < cycle_time past.tables n
 
--- the count is that of the pattern with which the last frame is coordinated, if it is with one
+-- the count is that of the pattern in which the last frame is coordinated, if it is in one
 abbrev pub CountStandsFor : Count → Past → Type 0
 CountStandsFor count past = (n : ℕ) → is_in_step (frame_seen past) past.version n ≡ true → CountsOn count past n

@@ -1,10 +1,10 @@
--- Ticks at which the command and the clock continue evenly.
+-- Ticks at which the commanded pattern stays the same and the clock advances by one tick.
 use Rattle.std.specs.Prelude.{ℕ, ◌≡◌, ◌<◌, ◌≤◌, ◌+◌, ◌-◌, ◌*◌, ◌⊎◌, ◌==◌, ◌&&◌, ◌||◌, min, if◌then◌else◌}
 use Rattle.sig_tables.specs.declared.tables.Tables.{Tables}
 use Rattle.tick_context.specs.declared.unit_commands.UnitCommands.{UnitCommands}
 use Rattle.tick_context.specs.UnitCommands.{most}
 
--- at each of that many ticks that come the same pattern is in command, by these tables, and the clock rises by one
+-- at each of the next k ticks the commanded pattern stays the same, by these tables, and the clock advances by one tick
 -- within the day
 pub record IsEven (o : UnitCommands) (t : Tables) (k : ℕ) : Type 0 where
   pub clock : o.clock + k < 864000
@@ -13,8 +13,8 @@ pub record IsEven (o : UnitCommands) (t : Tables) (k : ℕ) : Type 0 where
   pub few : t.unit.backup ≤ 65535
   pub command : (o.command ≡ 0) ⊎ ((t.unit.backup ≡ 0) ⊎ (o.since + k < 10 * t.unit.backup))
 
--- how many such ticks come, of at most that many: none where the clock drifts, else as many as the day and the backup
--- time leave
+-- the number of such ticks, at most `most`: 0 if the clock drifts, otherwise as many as the day and the backup time
+-- allow
 abbrev pub even_ticks : UnitCommands → Tables → ℕ → ℕ
 even_ticks o t most =
     if o.gain == 0 && o.lose == 0
@@ -23,7 +23,7 @@ even_ticks o t most =
     else min (min most (863999 - o.clock)) (10 * t.unit.backup - 1 - o.since))
     else 0
 
--- new is old after that many such ticks
+-- `new` is `old` after k such ticks
 pub record UnitCommandsPassed (k : ℕ) (old new : UnitCommands) : Type 0 where
   pub command : new.command ≡ old.command
   pub since : new.since ≡ min (old.since + k) most

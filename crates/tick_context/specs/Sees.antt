@@ -8,8 +8,8 @@ use Rattle.sig_tables.specs.Layout.{Has}
 use Rattle.sig_tables.specs.Seen.{frame_seen, demand_seen, quiet_seen, opposed_seen}
 use Rattle.tick_context.specs.declared.seeing.TickInputs.{TickInputs}
 
--- the phases with demand, those that are active, of which the Green ones are not quiet, and the Green ones to which an
--- incompatible phase has demand
+-- the phases with demand; the active phases (a Green phase is quiet if it isn't active); and the Green phases for which
+-- a conflicting phase has demand
 pub record Sees (s : TickInputs) (past : Past) : Type 0 where
   pub demand : phases_of s.demand ≡ demand_seen past
   pub quiet : (p : ℕ) → is_phase p ≡ true → is_in (quiet_seen past) p ≡ (is_green (frame_seen past) p && not (has s.active p))

@@ -1,4 +1,4 @@
--- What a tick is about, in code and in the definitions.
+-- The state of a tick, in code and in the definitions.
 use Rattle.std.specs.Prelude.{ℕ, ◌≡◌, ◌<◌}
 use Rattle.sig_types.specs.declared.frame.Mode.TheVariants.{Coord}
 use Rattle.sig_types.specs.Phases.{is_in}
@@ -14,7 +14,7 @@ use Rattle.flash_mode.specs.RingTurns.{ring_turn_meant}
 use Rattle.prio_queue.specs.Places.{some_number}
 use Rattle.tick_context.specs.declared.tick_state.TickState.{TickState}
 
--- the tick state is that of the definitions; the goal is that of its mode, and so are the smaller times
+-- the state in code is that of the definitions, with the goal of its mode and the limits of the times
 pub record TickStateIs (k : TickState) (past : Past) : Type 0 where
   pub clock : k.clock ≡ (tick_state_of past).clock
   pub command : k.command ≡ (tick_state_of past).command

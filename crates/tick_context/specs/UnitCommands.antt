@@ -1,4 +1,4 @@
--- What is kept of the unit commands of a cabinet, and what looking back gives.
+-- The stored commands and the stored clock of a cabinet are what looking back gives.
 use Rattle.std.specs.Prelude.{ℕ, ◌≡◌, ◌+◌, min, not, Bool, if◌then◌else◌, List}
 use Rattle.sig_tables.specs.Past.{Past, Moment}
 use Rattle.sig_tables.specs.Looking.{in_a_row}
@@ -8,11 +8,11 @@ use Rattle.sig_tables.specs.Showing.{command_shown, clock_shown}
 use Rattle.sig_tables.specs.Seen.{moment_seen}
 use Rattle.tick_context.specs.declared.unit_commands.UnitCommands.{UnitCommands}
 
--- for how many ticks the pattern has been in command, where it was commanded since the last frame or not
+-- the number of ticks since the last command of a pattern; 0 if there was one since the last frame
 abbrev pub ticks_since : Bool → List Moment → ℕ
 ticks_since commanded past = if commanded then 0 else in_a_row (λ m. not m.is_commanded) past + 1
 
--- the greatest count that is kept
+-- the greatest count that is stored
 abbrev pub most : ℕ
 most = 4294967295
 
@@ -20,7 +20,7 @@ most = 4294967295
 abbrev pub counted_ticks : UnitCommands → ℕ
 counted_ticks o = o.ticks
 
--- the unit commands are those that looking back gives
+-- the stored commands and the clock are those that looking back gives
 pub record UnitCommandsStand (o : UnitCommands) (past : Past) : Type 0 where
   pub command : o.command ≡ command_shown past
   pub since : o.since ≡ min (ticks_since (is_commanded past.commanded) past.moments) most
@@ -29,7 +29,7 @@ pub record UnitCommandsStand (o : UnitCommands) (past : Past) : Type 0 where
   pub gain : o.gain ≡ past.gain
   pub lose : o.lose ≡ past.lose
 
--- the moment saw the unit commands that the past gives
+-- the moment saw the commands and the clock that the past gives
 pub record SawUnitCommands (past : Past) (m : Moment) : Type 0 where
   pub number : m.number ≡ (moment_seen past).number + 1
   pub command : m.command ≡ command_now past

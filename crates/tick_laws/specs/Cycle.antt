@@ -1,40 +1,43 @@
--- A coordinated controller between two local zeros, in numbers: what is true of each phase at a counter of the cycle, so that at
--- local zero every phase that the pattern does not hold is off and both that it holds are Green (FHWA Signal Timing Manual:
--- force-off, permissive period). All times are in ticks; a run counts the last frames in a row, this one included.
+-- A coordinated cabinet between two local zeros, in numbers: conditions on a phase at a counter of the cycle. They
+-- ensure that at local zero both coordinated phases are Green and every other phase is off (FHWA Signal Timing Manual:
+-- force-off, permissive period). All times are in ticks; c is the counter, and `run` counts the last frames in a row
+-- that show the same colour, this one included.
 use Rattle.std.specs.Prelude.{ℕ, ◌≤◌, ◌+◌, ◌-◌, max}
 
--- what the plan gives a phase that it does not hold: it is served for at least a tick, and where it is forced off it clears before
--- the cycle ends
+-- the times of a phase that isn't coordinated: its service and its clearance last at least a tick, and its clearance
+-- after a force-off ends within the cycle
 pub record OtherTimes (cycle force clear service : ℕ) : Type 0 where
   pub some : 1 ≤ service
   pub clearing : 1 ≤ clear
   pub clears : force + clear ≤ cycle
 
--- what it gives a phase that it holds: it may end from the window on
+-- the times of a coordinated phase: its force point isn't before the end of the window
 pub record HeldTimes (window force : ℕ) : Type 0 where
   pub after : window ≤ force
 
--- a phase fits at counter d after `wait` more ticks: the window is past, and it is served before it is forced off
+-- a phase can begin `wait` ticks after counter d: the window is over, and its minimum service ends by its force point
 pub record Fits (window force service d wait : ℕ) : Type 0 where
   pub after : window ≤ d
   pub room : d + wait + service ≤ force
 
--- a Green that the pattern does not hold, shown for `run` frames, is served before it is forced off
+-- a Green of a phase that isn't coordinated, shown for `run` frames: its minimum service ends by its force point
 pub record GreenInTime (window force service c run : ℕ) : Type 0 where
   pub after : window ≤ c
   pub room : c + max 1 (service + 1 - run) ≤ force
 
--- its clearance, of which `rest` ticks are left, this frame's included, ends before the cycle does
+-- the clearance of a phase that isn't coordinated ends within the cycle; `rest` of its ticks are left, this one
+-- included
 pub record ClearsInTime (cycle window c rest : ℕ) : Type 0 where
   pub after : window ≤ c
   pub room : c + rest ≤ cycle
 
--- a held phase that clears is past its force point, and may begin again before the cycle ends
+-- a coordinated phase in clearance is past its force point, and its clearance and its red revert end within the cycle
 pub record ReturnsInTime (cycle force revert c rest : ℕ) : Type 0 where
   pub after : force ≤ c
   pub room : c + rest + revert ≤ cycle
 
--- and one that has been Red for `run` frames may begin again by then
+-- a coordinated phase that has been Red for `run` frames is past its force point, and its red revert ends before the
+-- cycle does
 pub record RestsInTime (cycle force revert c run : ℕ) : Type 0 where
   pub after : force ≤ c
   pub room : c + (revert - run) + 1 ≤ cycle

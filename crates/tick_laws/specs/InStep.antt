@@ -1,6 +1,5 @@
--- A cabinet coordinated in a pattern: what its phases show by the counter of the cycle, and what is known of how long
--- they have shown it (FHWA Signal Timing Manual: coordination, force-off, local zero). Counters are in ticks from local
--- zero.
+-- A cabinet coordinated in a pattern: what its phases show at each counter of the cycle, and for how long they have
+-- shown it (FHWA Signal Timing Manual: coordination, force-off, local zero). Counters are in ticks from local zero.
 use Rattle.std.specs.Prelude.{ℕ, ◌≡◌, ◌≢◌, ◌<◌, ◌⊎◌, true, false, List}
 use Rattle.sig_types.specs.declared.frame.Colour.TheVariants.{Green, Red}
 use Rattle.sig_types.specs.declared.frame.Frame.{Frame}
@@ -15,9 +14,9 @@ use Rattle.tick_laws.specs.Phases.{SignalStands}
 use Rattle.tick_laws.specs.Zero.{InTime, ZeroHolds}
 use Rattle.tick_laws.specs.Each.{EachMoment}
 
--- in a frame of pattern n with this counter: each coordinated phase is Green before its force point; no other phase is on before
--- the window, none is Green from its force point on, and none that the pattern omits is on at all. So at local zero the
--- coordinated phases are Green and every other phase is Red
+-- conditions on a moment in Coord of pattern n. Each coordinated phase is Green before its force point. No other phase
+-- is on before the end of the window, or Green from its force point on. A phase that the pattern omits is Red. So at
+-- local zero the coordinated phases are Green and every other phase is Red
 pub record Coordinated (t : Tables) (n : ℕ) (m : Moment) : Type 0 where
   pub within : m.frame.counter < cycle_time t n
   pub held : (q : ℕ) → is_coordinated t n q ≡ true → m.frame.counter < force_point t n q → colour_of m.frame q ≡ Green
@@ -27,17 +26,18 @@ pub record Coordinated (t : Tables) (n : ℕ) (m : Moment) : Type 0 where
   pub omitted : (p : ℕ) → is_enabled t p ≡ true → is_coordinated t n p ≡ false → is_omitted t n p ≡ true → colour_of m.frame p ≡ Red
   pub zero : m.frame.counter ≡ 0 → ZeroHolds t n m
 
--- each frame of a pattern is so, by the tables in force at its tick
+-- each moment in Coord of a pattern meets these conditions, by the tables in force at its tick
 abbrev pub EachCoordinated : List Moment → Type 0
 EachCoordinated moments = EachMoment (λ past m. (n : ℕ) → m.frame.mode ≡ Coord n → Coordinated m.tables n m) moments
 
--- what a frame names in a ring is on in it
+-- the frame's entry for each ring is 0 or an enabled phase of this ring that is on
 abbrev pub NamesOn : Tables → Frame → Type 0
 NamesOn t f = (r : ℕ) → (r ≡ 1) ⊎ (r ≡ 2)
     → (on_in f r ≡ 0) ⊎ ((is_enabled t (on_in f r) ≡ true) × (colour_of f (on_in f r) ≢ Red) × (ring_of t (on_in f r) ≡ r))
 
--- what is known where the last frame is coordinated in pattern n of these tables: it has a cycle, which the counter is
--- in; every phase is in time; and the walk of a phase that is not coordinated began with its Green
+-- what is known after a frame in Coord of pattern n. The pattern is defined, and the counter is within the cycle. Every
+-- phase is in time. The frame's entries for the rings are phases that are on. The walk of a phase that isn't
+-- coordinated began with its Green
 pub record InStep (t : Tables) (n : ℕ) (moments : List Moment) : Type 0 where
   pub defined : is_defined t n ≡ true
   pub within : (last_frame moments).counter < cycle_time t n

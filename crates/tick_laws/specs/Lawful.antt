@@ -1,4 +1,4 @@
--- What is asked of the tables of a history, so that the laws of safety speak of it in every mode.
+-- The conditions on the tables of a history under which the laws of safety hold in every mode.
 use Rattle.std.specs.Prelude.{ℕ, ◌≡◌, ◌≢◌, ◌≤◌, ◌⊎◌, Bool, true, false, List}
 use Rattle.sig_types.specs.Phases.{is_in}
 use Rattle.sig_types.specs.declared.frame.Mode.{Mode}
@@ -16,10 +16,10 @@ use Rattle.plan_facts.specs.Goals.{GoTogether, PreemptFits}
 use Rattle.plan_facts.specs.Times.{TimesHold}
 use Rattle.plan_facts.specs.Plan.{PlanHolds}
 
--- each enabled phase is in ring 1 or 2; concurrent phases are in different rings; phases of one side in different rings
--- are concurrent; the phases of start-up may be on together, and so may those that a defined pattern coordinates and
--- those that a preempt wants on; each defined pattern has a plan, whose order has each enabled phase; and the times are
--- long enough
+-- sound tables. Each enabled phase is in ring 1 or 2. Concurrent phases are in different rings, and phases of one
+-- barrier group in different rings are concurrent. The start-up phases may be on together, and so may the coordinated
+-- phases of each defined pattern and the phases of each preempt. Each defined pattern has a plan, and its sequence
+-- lists each enabled phase. The times are long enough
 pub record Sound (t : Tables) : Type 0 where
   pub ring : (p : ℕ) → is_enabled t p ≡ true → (ring_of t p ≡ 1) ⊎ (ring_of t p ≡ 2)
   pub across : (p q : ℕ) → are_concurrent t p q ≡ true → ring_of t p ≢ ring_of t q
@@ -38,19 +38,18 @@ pub record SameLayout (old new : Tables) : Type 0 where
   pub ring : (p : ℕ) → is_enabled old p ≡ true → ring_of new p ≡ ring_of old p
   pub concurrent : (p q : ℕ) → are_concurrent new p q ≡ are_concurrent old p q
 
--- in this mode nothing is on
+-- in this mode no phase is on
 abbrev pub is_dark : Mode → Bool
 is_dark Start = true
 is_dark Flash = true
 is_dark _ = false
 
--- the event may come after these: tables that are put in force are sound, and have the layout of those before them,
--- except those put in force while nothing is on
+-- the event is allowed after these: a download puts sound tables in force, and keeps the layout unless no phase is on
 abbrev pub IsLawfulAfter : Tables → List Event → Event → Type 0
 IsLawfulAfter opening before (Install t) =
     Sound t × ((is_dark (last_frame (past_of opening before).moments).mode ≡ true) ⊎ SameLayout (past_of opening before).tables t)
 IsLawfulAfter opening before _ = Unit {0}
 
--- the opening tables are sound, and each event may come after those before it
+-- the opening tables are sound, and each event is allowed after those before it
 abbrev pub Lawful : Tables → List Event → Type 0
 Lawful opening events = Sound opening × EachEvent (IsLawfulAfter opening) events

@@ -1,5 +1,5 @@
--- A coordinated controller between two local zeros: what is true of each phase at a counter of the cycle, by the colour that it
--- shows. The moments have the newest first; c is the counter of the last.
+-- A coordinated cabinet between two local zeros: the condition on each phase at a counter of the cycle, by its colour.
+-- Lists of moments have the newest first; c is the counter of the last one.
 use Rattle.std.specs.Prelude.{ℕ, true, ◌≡◌, ◌≤◌, ◌⊎◌, ◌+◌, ◌-◌, List}
 use Rattle.sig_types.specs.declared.frame.Colour.{Colour}
 use Rattle.sig_types.specs.declared.frame.Colour.TheVariants.{Green, Yellow, Clear, Red}
@@ -17,7 +17,8 @@ use Rattle.sig_tables.specs.Decide.{colour_after}
 use Rattle.tick_laws.specs.Steps.{Steps}
 use Rattle.tick_laws.specs.Cycle.{OtherTimes, HeldTimes, Fits, GreenInTime, ClearsInTime, ReturnsInTime, RestsInTime}
 
--- a step of the counter under pattern n, and the moment that it gives under these tables and moves
+-- a tick under pattern n: the counter goes from c to d, the tables stay the same, and phase p gets the colour that the
+-- moves give it
 pub record Next (t : Tables) (n p c d : ℕ) (moves : Moves) (past : List Moment) (m : Moment) : Type 0 where
   pub counter : Steps (cycle_time t n) (window t n) c d
   pub tables : m.tables ≡ t
@@ -27,12 +28,13 @@ pub record Next (t : Tables) (n p c d : ℕ) (moves : Moves) (past : List Moment
 abbrev pub Latched : Tables → ℕ → Colour → List Moment → Type 0
 Latched t p colour past = latched p colour t past ≡ t
 
--- ---- a phase that the pattern does not hold
+-- the times of a phase that isn't coordinated, by the tables
 
 abbrev pub Other : Tables → ℕ → ℕ → Type 0
 Other t n p = OtherTimes (cycle_time t n) (force_point t n p) (clearance t p) (least_service t p)
 
--- it is forced off from its force point on, and begins only where it fits
+-- a phase that isn't coordinated: which ticks end and begin it, and its conditions while it is Green, Yellow or in red
+-- clearance
 pub record OtherMoves (t : Tables) (n p d : ℕ) (moves : Moves) (past : List Moment) : Type 0 where
   pub forced : colour_of (last_frame past) p ≡ Green → force_point t n p ≤ d → is_in moves.ends p ≡ true
   pub fits : is_in moves.begins p ≡ true → Fits (window t n) (force_point t n p) (least_service t p) d 0
@@ -51,19 +53,20 @@ pub record OtherClear (t : Tables) (n p c : ℕ) (past : List Moment) : Type 0 w
   pub within : run p Clear past ≤ red_clear_time t p
   pub latched : Latched t p Clear past
 
--- what is true of it at counter c, by its colour
+-- the condition on a phase that isn't coordinated at counter c, by its colour; Red has no condition
 abbrev pub OtherStands : Tables → ℕ → ℕ → ℕ → List Moment → Colour → Type 0
 OtherStands t n p c past Green = OtherGreen t n p c past
 OtherStands t n p c past Yellow = OtherYellow t n p c past
 OtherStands t n p c past Clear = OtherClear t n p c past
 OtherStands t n p c past Red = Unit {0}
 
--- ---- a phase that the pattern holds
+-- the times of a coordinated phase, by the tables
 
 abbrev pub Held : Tables → ℕ → ℕ → Type 0
 Held t n q = HeldTimes (window t n) (force_point t n q)
 
--- another phase fits after the clearance of q, and a red revert of q is over by the end of its clearance
+-- some other phase can be served after the clearance of q, and the red revert of q is over by the end of the other
+-- phase's clearance
 pub record FitsAfter (t : Tables) (n q d : ℕ) : Type 0 where
   pub phase : ℕ
   pub other : Other t n phase
@@ -72,7 +75,8 @@ pub record FitsAfter (t : Tables) (n q d : ℕ) : Type 0 where
   pub fits : Fits (window t n) (force_point t n phase) (least_service t phase) d wait
   pub revert : red_revert_time t q ≤ least_service t phase + clearance t phase
 
--- it ends only past its force point, and only for a phase that fits after its clearance
+-- a coordinated phase: a tick ends it only from its force point on, and only if another phase can be served after its
+-- clearance; and its conditions while it is Yellow or in red clearance
 pub record HeldMoves (t : Tables) (n q d : ℕ) (moves : Moves) : Type 0 where
   pub past : is_in moves.ends q ≡ true → force_point t n q ≤ d
   pub other : is_in moves.ends q ≡ true → FitsAfter t n q d
@@ -87,14 +91,15 @@ pub record HeldClear (t : Tables) (n q c : ℕ) (past : List Moment) : Type 0 wh
   pub within : run q Clear past ≤ red_clear_time t q
   pub latched : Latched t q Clear past
 
--- what is true of it at counter c, by its colour: not Green, it is past its force point and returns in time
+-- the condition on a coordinated phase at counter c, by its colour. If it isn't Green, it is past its force point and
+-- can be Green again before the cycle ends
 abbrev pub HeldStands : Tables → ℕ → ℕ → ℕ → List Moment → Colour → Type 0
 HeldStands t n q c past Green = Unit {0}
 HeldStands t n q c past Yellow = HeldYellow t n q c past
 HeldStands t n q c past Clear = HeldClear t n q c past
 HeldStands t n q c past Red = RestsInTime (cycle_time t n) (force_point t n q) (red_revert_time t q) c (run q Red past)
 
--- ---- the signals of a phase that the pattern does not hold: its walk began with its Green
+-- the pedestrian signals of a phase that isn't coordinated: its walk began with its Green
 pub record WalksFromGreen (t : Tables) (p : ℕ) (past : List Moment) : Type 0 where
   pub together : signal_run p Walk past ≡ run p Green past
   pub within : signal_run p Walk past ≤ walk_time t p
@@ -110,8 +115,8 @@ SignalStands t p past Walk = WalksFromGreen t p past
 SignalStands t p past Flash = FlashesFromGreen t p past
 SignalStands t p past Dont = Unit {0}
 
--- the signal that a tick gives: Walk begins only with Green, else it advances by itself; and only a Green phase shows
--- one
+-- the pedestrian signal after a tick: Walk begins only with Green, otherwise the signal advances by itself; only a
+-- Green phase shows Walk or Flash
 pub record SignalMoves (t : Tables) (p : ℕ) (past : List Moment) (m : Moment) : Type 0 where
   pub tables : m.tables ≡ t
   pub how : ((signal_of m.frame p ≡ Walk) × (colour_of (last_frame past) p ≡ Red) × (signal_of (last_frame past) p ≡ Dont) × (1 ≤ walk_time t p))

@@ -1,9 +1,9 @@
--- How the counter of a cycle continues from one tick to the next, whatever its target is (FHWA Signal Timing Manual,
--- offset transition). Counters are in ticks from local zero.
+-- How the counter of a cycle changes from one tick to the next, for any target (FHWA Signal Timing Manual, offset
+-- transition). Counters are in ticks from local zero.
 use Rattle.std.specs.Prelude.{ℕ, ◌≡◌, ◌≤◌, ◌<◌, ◌+◌}
 
--- the counter continues from c to d: it is within the window, continues as time does, skips one tick at most up to the
--- window, or comes to local zero
+-- the counter changes from c to d: it waits within the window, advances by 1, advances by 2 up to the end of the
+-- window, or returns to 0 at the end of the cycle
 pub data Steps (cycle window c d : ℕ) : Type 0 where
   Stands : (same : d ≡ c) → (inside : c < window) → Steps cycle window c d
   Plain : (next : d ≡ c + 1) → (within : c + 1 < cycle) → Steps cycle window c d

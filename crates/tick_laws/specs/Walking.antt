@@ -1,4 +1,4 @@
--- What is safe about the pedestrian signals of a history; its moments have the newest first.
+-- Safety of the pedestrian signals of a history. Lists of moments have the newest first.
 use Rattle.std.specs.Prelude.{ℕ, ◌≡◌, ◌≢◌, ◌≤◌, ◌⊎◌, true, false, ◌==◌, max, min, if◌then◌else◌, List, ◌∷◌}
 use Rattle.sig_types.specs.declared.frame.Colour.TheVariants.{Green}
 use Rattle.sig_types.specs.declared.frame.Ped.TheVariants.{Walk, Flash, Dont}
@@ -15,40 +15,42 @@ use Rattle.sig_tables.specs.Looking.{last_frame, signal_run, signal_latched}
 use Rattle.tick_laws.specs.Safe.{is_on}
 use Rattle.tick_laws.specs.Each.{EachMoment}
 
--- Walk and Flash are only on a phase that is Green
+-- only a Green phase shows Walk or Flash
 abbrev pub OnGreen : Frame → Type 0
 OnGreen f = (p : ℕ) → is_phase p ≡ true → (signal_of f p ≡ Dont) ⊎ (colour_of f p ≡ Green)
 
--- at each tick they do
+-- at each tick only Green phases show Walk or Flash
 abbrev pub EachOnGreen : List Moment → Type 0
 EachOnGreen moments = EachMoment (λ past m. OnGreen m.frame) moments
 
--- a walk that has run for that long lasted its time; at least what is left of it, where it is cut short
+-- a walk of this time that ends after `ran` ticks has a correct length: exactly its time, or at least what a preempt
+-- leaves of it
 abbrev pub WalkLasted : Lesser → ℕ → ℕ → Type 0
 WalkLasted InFull time ran = ran ≡ time
 WalkLasted (AtMost walk clear) time ran = max 1 (min time walk) ≤ ran
 
--- and so with a pedestrian clearance
+-- a pedestrian clearance of this time that ends after `ran` ticks has a correct length
 abbrev pub FlashLasted : Lesser → ℕ → ℕ → Type 0
 FlashLasted InFull time ran = ran ≡ time
 FlashLasted (AtMost walk clear) time ran = min time clear ≤ ran
 
--- the times of p at m: in full, or cut short where it is in a preempt's way
+-- the limits on the times of phase p at m, if p makes way for a preempt; otherwise none
 abbrev pub left_at : Moment → ℕ → Lesser
 left_at m p = lesser_in m.tables m.frame.mode p
 
--- where Walk of p ends at m, it lasted the time in force at its first tick, or what is left of that; and Flash follows it, Dont
--- where the tables in force leave no pedestrian clearance
+-- if Walk of p ends at m, it lasted its time by the tables at its first tick, or at least what a preempt leaves of it.
+-- Flash follows, or Dont if no pedestrian clearance is left
 abbrev pub WalkEnds : List Moment → Moment → ℕ → Type 0
 WalkEnds past m p = signal_of (last_frame past) p ≡ Walk → signal_of m.frame p ≢ Walk
     → WalkLasted (left_at m p) (walk_time (signal_latched p Walk m.tables past) p) (signal_run p Walk past)
     × (signal_of m.frame p ≡ (if lesser_clear (left_at m p) (pedestrian_clear_time m.tables p) == 0 then Dont else Flash))
 
--- each walk of each phase that ends lasted so
+-- each walk of each phase ends in this way
 abbrev pub EachWalkEnds : List Moment → Type 0
 EachWalkEnds moments = EachMoment (λ past m. (p : ℕ) → is_phase p ≡ true → WalkEnds past m p) moments
 
--- Walk begins only after Dont, and ends so; where Flash of p ends at m, it lasted its time in the same way, and Dont follows it
+-- Walk of p begins only after Dont, and ends as above. If Flash of p ends at m, it lasted its time in the same way, and
+-- Dont follows
 pub record SignalEnds (past : List Moment) (m : Moment) (p : ℕ) : Type 0 where
   pub follows : signal_of m.frame p ≡ Walk → signal_of (last_frame past) p ≢ Walk → signal_of (last_frame past) p ≡ Dont
   pub walk : WalkEnds past m p
@@ -56,32 +58,32 @@ pub record SignalEnds (past : List Moment) (m : Moment) (p : ℕ) : Type 0 where
       → FlashLasted (left_at m p) (pedestrian_clear_time (signal_latched p Flash m.tables past) p) (signal_run p Flash past)
       × (signal_of m.frame p ≡ Dont)
 
--- each signal of each phase that begins or ends does so
+-- each pedestrian signal of each phase begins and ends in this way
 abbrev pub EachSignalEnds : List Moment → Type 0
 EachSignalEnds moments = EachMoment (λ past m. (p : ℕ) → is_phase p ≡ true → SignalEnds past m p) moments
 
--- a walk that runs at m has not outlasted the time in force at its first tick
+-- a walk that p shows at m has not exceeded its time by the tables at its first tick
 abbrev pub WalkWithin : List Moment → Moment → ℕ → Type 0
 WalkWithin past m p = signal_run p Walk (m ∷ past) ≤ walk_time (signal_latched p Walk m.tables (m ∷ past)) p
 
--- nor has a pedestrian clearance
+-- a pedestrian clearance that p shows at m has not exceeded its time by the tables at its first tick
 abbrev pub FlashWithin : List Moment → Moment → ℕ → Type 0
 FlashWithin past m p =
     signal_run p Flash (m ∷ past) ≤ pedestrian_clear_time (signal_latched p Flash m.tables (m ∷ past)) p
 
--- at each tick no phase's walk has outlasted its time
+-- at each tick no walk has exceeded its time
 abbrev pub EachWalkWithin : List Moment → Type 0
 EachWalkWithin moments = EachMoment (λ past m. (p : ℕ) → is_phase p ≡ true → WalkWithin past m p) moments
 
--- at each tick no phase's pedestrian clearance has
+-- at each tick no pedestrian clearance has exceeded its time
 abbrev pub EachFlashWithin : List Moment → Type 0
 EachFlashWithin moments = EachMoment (λ past m. (p : ℕ) → is_phase p ≡ true → FlashWithin past m p) moments
 
--- a phase that is not enabled shows Red and Dont; no two incompatible phases both show Walk or Flash
+-- a phase that isn't enabled shows Red and Dont; no two conflicting phases both show Walk or Flash
 pub record Quiet (t : Tables) (f : Frame) : Type 0 where
   pub disabled : (p : ℕ) → is_phase p ≡ true → is_enabled t p ≡ false → (is_on f p ≡ false) × (signal_of f p ≡ Dont)
   pub walks : (p q : ℕ) → are_incompatible t p q ≡ true → (signal_of f p ≡ Dont) ⊎ (signal_of f q ≡ Dont)
 
--- at each tick it is so
+-- this holds at each tick
 abbrev pub EachQuiet : List Moment → Type 0
 EachQuiet moments = EachMoment (λ past m. Quiet m.tables m.frame) moments

@@ -1,4 +1,4 @@
--- What an expecter has read of the lines that it was given.
+-- What an expecter has read of the lines that were expected.
 use Rattle.std.specs.Prelude.{List, [], ◌∷◌, ◌++◌, refl}
 use Rattle.std.proofs.Common.{◌≡◌, ap, sym, subst}
 use Rattle.trace_text.specs.declared.lines.Line.{Line}
@@ -11,11 +11,11 @@ use Rattle.trace_check.specs.declared.places.Place.{Place}
 use Rattle.trace_check.specs.declared.expecter.Expecter.{Expecter}
 use Rattle.trace_check.specs.Reading.{Fails, Leads}
 
--- the text from one place to the other is that of these lines, whatever the script wants after them
+-- the text from one place to the other is that of these lines, for every continuation of the script
 abbrev pub expecter_told : Expecter → Expecter → List Line → Type 0
 expecter_told a b lines = (rest : Script) → Leads (say lines rest) a.at rest b.at
 
--- the text has a fault in these lines, whatever the script wants after them
+-- the text has a fault in these lines, for every continuation of the script
 abbrev pub expecter_stopped : Expecter → Expecter → CheckFail → List Line → Type 0
 expecter_stopped a b fail lines = (rest : Script) → Fails (say lines rest) a.at fail
 
@@ -27,7 +27,7 @@ say-append : (xs ys : List Line) (rest : Script) → say (xs ++ ys) rest ≡ say
 say-append [] ys rest = refl
 say-append (x ∷ xs) ys rest = ap (λ (more : Script). Says x more) (say-append xs ys rest)
 
--- a way and a fault after it
+-- some text that leads on in the script, followed by a fault
 pub fails-on : (a b : Script) (at mid : Place) (fail : CheckFail) → Leads a at b mid → Fails b mid fail → Fails a at fail
 fails-on a b at mid (NotATrace f) w fails = faults-on a b at.left.now mid.left.now at.line mid.line f.line f.rule w fails
 fails-on a b at mid NoMemory w fails = tt

@@ -33,3 +33,5 @@ pub mod Unique
 pub mod Whole
 pub mod Either
 pub mod Small
+mod BandTargets
+mod BandGreens

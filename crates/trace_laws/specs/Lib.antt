@@ -10,3 +10,4 @@ pub mod Script
 pub mod Laws
 pub mod Small
 pub mod Seen
+pub mod BandDriving

@@ -1,4 +1,4 @@
--- Messages that are of octets: what is in them as octets is, and each arc of a name takes at most 32 bits.
+-- Messages whose parts consist of octets, and whose names have arcs of at most 32 bits.
 use Rattle.std.specs.Prelude.{ℕ, ◌<◌, ◌≤◌, List, length}
 use Rattle.std.specs.List.{AllByRecursion}
 use Rattle.ber_code.specs.Names.{IsWritable}
@@ -8,13 +8,13 @@ use Rattle.snmp_msg.specs.declared.message.Bind.{Bind}
 use Rattle.snmp_msg.specs.declared.message.Message.{Message}
 use Rattle.snmp_msg.specs.Shortest.{AreOctets}
 
--- the octets of a frame: 1 to 1,472
+-- these are the octets of a message: 1 to 1,472
 pub record IsFrame (text : List ℕ) : Type 0 where
   pub octets : AreOctets text
   pub some : 1 ≤ length text
   pub fits : length text ≤ 1472
 
--- a name of 2 to 32 arcs, each of at most 32 bits
+-- the name has 2 to 32 arcs, each of at most 32 bits
 pub record IsShortName (arcs : List ℕ) : Type 0 where
   pub writable : IsWritable arcs
   pub short : AllByRecursion (λ arc. arc < 4294967296) arcs

@@ -1,5 +1,6 @@
--- All runs of a scenario as one tree: it has the next expected line, or the cabinet whose journal comes next and
--- decides how the tree continues. A text is compared with it line by line, and leaves it at its first fault.
+-- All runs of a scenario as one tree. A place of the tree has the next expected line, or the cabinet whose journal is
+-- next and determines how the tree continues. A text is compared with the tree line by line, and leaves it at its
+-- first fault.
 use Rattle.std.specs.Prelude.{ℕ, zero, suc, ◌+◌, ◌≡◌, ◌≢◌, if◌then◌else◌, List, [], ◌∷◌, ◌++◌, length}
 use Rattle.trace_text.specs.declared.lines.Line.{Line}
 use Rattle.trace_text.specs.declared.lines.Line.TheVariants.{J, Z}
@@ -13,18 +14,19 @@ use Rattle.run_definition.specs.CabinetState.{CabinetState, opened_cabinet_state
 use Rattle.run_definition.specs.Lines.{acts_lines, head_lines, opening_lines}
 use Rattle.trace_laws.specs.Faults.{same_head, rule_of, first_piece, IsNoLine}
 
--- nothing more is expected; or a line; or a cabinet's journal, any merge of its streams, by which it continues
+-- nothing more is expected; or a line is expected; or the journal of a cabinet is expected, which may be any merge of
+-- its streams and determines how the script continues
 pub data Script : Type 0 where
   Ends : Script
   Says : (line : Line) → (rest : Script) → Script
   Hears : (cab : ℕ) → (streams : List (List Item)) → (next : List ℕ → Script) → Script
 
--- these lines, and then the rest
+-- these lines, followed by the rest
 abbrev pub say : List Line → Script → Script
 say [] rest = rest
 say (line ∷ lines) rest = Says line (say lines rest)
 
--- the lines lead from the first of these to the second
+-- the lines lead from the first script to the second
 abbrev pub Goes : Script → List Line → Script → Type 0
 Goes script [] end = script ≡ end
 Goes Ends (line ∷ lines) end = ⊥
@@ -32,27 +34,28 @@ Goes (Says due rest) (line ∷ lines) end = (line ≡ due) × Goes rest lines en
 Goes (Hears cab streams next) (line ∷ lines) end =
     (journal : List ℕ) × (line ≡ J cab (runs_of journal)) × IsMerge streams journal × Goes (next journal) lines end
 
--- a cabinet's round: its journal, the lines of what the journal brings, and then what follows
+-- the script of a cabinet's round: its journal, the lines of what the journal brings, and then what follows
 abbrev pub cabinet_script : ScenarioContent → ℕ → CabinetState → (List ℕ → Script) → Script
 cabinet_script s cab t next =
     Hears cab (coming_streams s cab t) (λ journal. say (acts_lines cab t.cabinet_history (round_acts s cab t journal)) (next journal))
 
--- the rounds of the cabinets from this number on; the cabinets before it have reached these states, in order
+-- the script of the rounds of the cabinets from this number on; the cabinets before have these states after the
+-- round, in order
 abbrev pub cabinets_script : ScenarioContent → ℕ → List CabinetState → List CabinetState → (List CabinetState → Script) → Script
 cabinets_script s first gone [] rest = rest gone
 cabinets_script s first gone (t ∷ ts) rest =
     cabinet_script s first t (λ journal. cabinets_script s (first + 1) (gone ++ next_cabinet_state s first t journal ∷ []) ts rest)
 
--- a round: its number, the master's notes, and each cabinet's
+-- the script of a round: its number, the master's notes, and the round of each cabinet
 abbrev pub round_script : ScenarioContent → ℕ → List CabinetState → (List CabinetState → Script) → Script
 round_script s round ts rest = say (head_lines s round ts) (cabinets_script s 1 [] ts rest)
 
--- n rounds, from this number on, and the end
+-- the script of `n` rounds from this number on, and then the end
 abbrev pub rounds_script : ScenarioContent → ℕ → ℕ → List CabinetState → Script
 rounds_script s round zero ts = Says (Z s.rounds) Ends
 rounds_script s round (suc n) ts = round_script s round ts (rounds_script s (round + 1) n)
 
--- the lines after the first: what each cabinet shows before any tick, the rounds, and the end
+-- the script of the lines after the first: the F lines before any tick, the rounds, and the end
 abbrev pub script_of : ScenarioContent → Script
 script_of s =
     say (opening_lines 1 (opened_cabinet_states s s.cabinets)) (rounds_script s 1 s.rounds (opened_cabinet_states s s.cabinets))
@@ -61,21 +64,21 @@ script_of s =
 abbrev pub rule_for : Line → Line → ℕ
 rule_for due line = if same_head due line then rule_of line else 4
 
--- the script does not continue with the line, and why
+-- the script doesn't continue with this line, and this is the rule that the line breaks
 abbrev pub Refuses : Script → Line → ℕ → Type 0
 Refuses Ends line rule = ⊥
 Refuses (Says due rest) line rule = (line ≢ due) × (rule ≡ rule_for due line)
 Refuses (Hears cab streams next) line rule =
     ((journal : List ℕ) → line ≡ J cab (runs_of journal) → IsMerge streams journal → ⊥) × (rule ≡ rule_for (J cab []) line)
 
--- the script does not continue with the bytes that are left, and why
+-- the script doesn't continue with the bytes that are left, and this is the rule that they break
 pub data Stops (script : Script) : List ℕ → ℕ → Type 0 where
   Lacking : script ≢ Ends → Stops script [] 10
   Beyond : (left : List ℕ) → script ≡ Ends → left ≢ [] → Stops script left 11
   Unread : (left : List ℕ) → script ≢ Ends → left ≢ [] → IsNoLine (first_piece left) → Stops script left 2
   Other : (line : Line) → (left : List ℕ) → (rule : ℕ) → IsLine line → Refuses script line rule → Stops script (line_text line ++ left) rule
 
--- the text leaves the script after that many lines
+-- the text leaves the script after `n` lines
 pub record FaultIn (script : Script) (text : List ℕ) (n rule : ℕ) : Type 0 where
   pub before : List Line
   pub left : List ℕ
@@ -85,14 +88,14 @@ pub record FaultIn (script : Script) (text : List ℕ) (n rule : ℕ) : Type 0 w
   pub goes : Goes script before mid
   pub stops : Stops mid left rule
 
--- the text, whose first line has this number, leaves the script at the line with that number
+-- the first line of the text has the number `line`, and the text leaves the script at the line with the number `at`
 pub record FaultsAt (script : Script) (text : List ℕ) (line at rule : ℕ) : Type 0 where
   pub n : ℕ
   pub place : at ≡ line + n
   pub fault : FaultIn script text n rule
 
--- the text, whose first line has this number, begins with lines that lead from one place of the script to another; the rest of the text
--- begins with the next number
+-- the text begins with lines that lead from one place of the script to another. Its first line has the number `line`,
+-- and the rest begins with the number `next`
 pub record Walks (from : Script) (text : List ℕ) (line : ℕ) (to : Script) (rest : List ℕ) (next : ℕ) : Type 0 where
   pub taken : List Line
   pub split : text ≡ lines_text taken ++ rest

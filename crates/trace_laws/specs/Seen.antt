@@ -1,5 +1,5 @@
--- What was seen of a cabinet while a trace was checked: the frames that have a line, the tables of each version, and how many ticks
--- the cabinet had.
+-- What was seen of a cabinet during the check of a trace: its displays that have a line, its tables of each version,
+-- and its number of ticks.
 use Rattle.std.specs.Prelude.{ℕ, ◌+◌, ◌≡◌, List, [], length}
 use Rattle.sig_tables.specs.Past.{History}
 use Rattle.sig_tables.specs.Decide.{frames as frames_of, past_at}
@@ -17,14 +17,15 @@ use Rattle.run_definition.specs.CabinetState.{CabinetState, HasComeTo, opened_ca
 use Rattle.trace_laws.specs.Text.{TellsAllKept}
 use Rattle.trace_laws.specs.declared.seen.Seen.{Seen}
 
--- of a history were seen its frames that have a line, the tables of its versions in order, and its ticks
+-- this was seen of a history: its displays that have a line, the tables of its versions in order, and its number of
+-- ticks
 pub record IsSeenOf (seen : Seen) (h : History) : Type 0 where
   pub frames : seen.frames.items ≡ frames_written has_line (frames_of h)
   pub tables : AreByVersion seen.tables.items (tables_of h) (past_at h).version
   pub ticks : seen.ticks + 1 ≡ length (frames_of h)
 
--- the text is a trace, by whose lines every promise holds; if it has a cabinet with this number, this was seen of its
--- whole history, otherwise no tables were seen
+-- the text is a trace, and every promise holds by its lines. If there is a cabinet with this number, this was seen of
+-- its whole history; otherwise no tables were seen
 pub record HasSeen (text : List ℕ) (cab : ℕ) (seen : Seen) : Type 0 where
   pub scenario : ScenarioContent
   pub journals : List (List (List ℕ))

@@ -4,8 +4,10 @@
 //! What may be seen of a cabinet in a trace: its frames, its tables by version and its ticks; that only octets go over
 //! the link, that each line of a run is one that a trace may have, and that a text has one list of lines. It has no
 //! code.
+//! The module `bands` has the law that bands are green.
 #![tactic(auto)]
 
+mod bands;
 mod frame_octets;
 mod one_trace;
 mod proper_lines;
@@ -18,6 +20,7 @@ ghost use Rattle.trace_laws.specs.Faults.{FaultOf};
 ghost use Rattle.trace_laws.specs.Laws.{DueIsDetermined, RoundsAreFronts, NothingFollows, JournalsAreTold, FaultsAreDetermined, TracesHaveNoFault, NothingElse, TellsOfRun, FrontsAreProper, LinesTell};
 ghost use Rattle.trace_laws.specs.Small.{ended, dark, small_lines, IsBehindFirst};
 
+pub use bands::bands_are_green;
 pub use frame_octets::{messages_are_of_octets, only_octets_go_over_the_line, replies_are_frames};
 pub use one_trace::{lines_differ, run_texts_are_safe, texts_have_one_list};
 pub use proper_lines::lines_are_proper;

@@ -7,7 +7,8 @@ pub mod Cuts
 pub mod RunWords
 pub mod Octets
 pub mod Journals
-pub mod Frames
 pub mod FirstWords
 pub mod Spaces
+pub mod FrontParts
+pub mod Frames
 pub mod Ends

@@ -42,6 +42,10 @@ all_of c [] h k d low = absurd (omega arith)
 all_of c (x ∷ xs) h zero d low = ne_eqb x c h.0
 all_of c (x ∷ xs) h (suc k) d low = all_of c xs h.1 k d (omega arith)
 
+-- as the test of a split has it
+pub all_lack : (c : ℕ) (xs : List ℕ) → Lacks c xs → All (λ x. (x == c) ≡ false) xs
+all_lack c xs h = all_of c xs (from_lacks c xs h)
+
 joined_lacks : (c : ℕ) (xs ys : List ℕ) → LacksAll c xs → LacksAll c ys → LacksAll c (xs ++ ys)
 joined_lacks c [] ys h k = k
 joined_lacks c (x ∷ xs) ys h k = (h.0, joined_lacks c xs ys h.1 k)
@@ -226,3 +230,7 @@ reads_text bytes words split (Some line) h = record {
   value = (h.value.0, words_told bytes line (sym split ∙ h.value.1));
   only = λ l is e. h.only l is (split ∙ ap (slice_split (λ b. b == 32)) e ∙ line_split l is);
 }
+
+-- and no line has no words
+pub none_worded : (bytes : List ℕ) → [] ≡ slice_split (λ b. b == 32) bytes → Reads IsWorded (λ l. unended (line_words l)) bytes None
+none_worded bytes none = reads_text bytes [] none None (reads_none (λ l is e. let long : 0 ≡ length (line_words l) = ap length e in let some = some_words l in omega (arith, long, some)))

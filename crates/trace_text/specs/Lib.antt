@@ -3,4 +3,5 @@ pub mod Texts
 pub mod Line
 pub mod IsLine
 pub mod Reads
+pub mod Fronts
 pub mod FrameLines

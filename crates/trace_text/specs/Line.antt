@@ -1,7 +1,6 @@
 -- The text of each line of a trace.
 use Rattle.std.specs.Prelude.{ℕ, List, [], ◌∷◌, map, codes, decimal, Result, Ok, Err}
 use Rattle.std.specs.Fmt.{signed_decimal}
-use Rattle.sig_types.specs.declared.frame.Frame.{Frame}
 use Rattle.sig_types.specs.declared.notes.Broken.{Broken}
 use Rattle.sig_types.specs.declared.notes.MasterNote.{MasterNote}
 use Rattle.sig_types.specs.declared.notes.MasterNote.TheVariants as note
@@ -25,7 +24,7 @@ load_words cab id (Ok version) = codes "L" ∷ decimal cab ∷ decimal id ∷ co
 load_words cab id (Err broken) =
     codes "L" ∷ decimal cab ∷ decimal id ∷ codes "refused" ∷ decimal broken.rule ∷ decimal broken.row ∷ []
 
--- the words of a line; a scenario's text counts as one, whatever is in it
+-- the words of a line; the text of a scenario is one word, even if it has spaces
 abbrev pub line_words : Line → List (List ℕ)
 line_words (S json) = codes "S" ∷ json ∷ []
 line_words (F cab tick veh ped mode counter target version) =

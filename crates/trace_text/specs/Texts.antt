@@ -22,15 +22,15 @@ signal_letter Walk = 87
 signal_letter Flash = 70
 signal_letter Dont = 68
 
--- the letters of a frame's colours, by phase
+-- the letters of the colours of an F line, phase by phase
 abbrev pub colours_text : List Colour → List ℕ
 colours_text veh = map colour_letter veh
 
--- the letters of a frame's pedestrian signals, by phase
+-- the letters of the pedestrian signals of an F line, phase by phase
 abbrev pub signals_text : List Ped → List ℕ
 signals_text ped = map signal_letter ped
 
--- the word of a mode: a letter, and the number of its pattern or preempt; a preempt's stage has a last letter
+-- the word of a mode: a letter, and the number of its pattern or preempt. For a preempt a last letter gives the stage
 abbrev pub mode_text : Mode → List ℕ
 mode_text mode.Start = codes "S"
 mode_text mode.Free = codes "F"
@@ -43,15 +43,15 @@ mode_text (mode.Track preempt) = codes "P" ++ (decimal preempt ++ codes "t")
 mode_text (mode.Dwell preempt) = codes "P" ++ (decimal preempt ++ codes "d")
 mode_text (mode.Exit preempt) = codes "P" ++ (decimal preempt ++ codes "x")
 
--- the word of a run of a journal: the pass, a star, and how many events in a row are that pass's
+-- the word of a run in a journal: the pass, a star, and how many items in a row are of this pass
 abbrev pub run_word : ℕ × ℕ → List ℕ
 run_word run = decimal run.0 ++ (codes "*" ++ decimal run.1)
 
--- octets in lower-case hexadecimal
+-- octets as lower-case hexadecimal digits
 abbrev pub octets_text : ArrayVec ℕ → List ℕ
 octets_text octets = encode_lower octets.items
 
--- the word of a reply: its octets, or a dash where there is none
+-- the word of a reply: its octets, or a dash if there is no reply
 abbrev pub reply_text : Option (ArrayVec ℕ) → List ℕ
 reply_text None = codes "-"
 reply_text (Some octets) = octets_text octets

@@ -1,96 +1,15 @@
 //! Reading the lines of each kind from the words after the kind's letter.
 
 ghost use Rattle.std.specs.Prelude.{◌≡◌, ◌∷◌, ◌<◌, ◌^◌, ℕ, [], map, codes, decimal, IfOk, length, IsTrue, ◌↔◌};
-ghost use Rattle.trace_text.specs.FrameLines.{words_read};
-ghost use Rattle.trace_text.specs.IsLine.{IsWorded, FitsMode, FitsNote, FitsLoad};
+ghost use Rattle.trace_text.specs.IsLine.{IsWorded, FitsNote, FitsLoad};
 ghost use Rattle.trace_text.specs.Line.{line_words, note_words, load_words};
 ghost use Rattle.trace_text.specs.Reads.{Reads};
-ghost use Rattle.trace_text.specs.Texts.{colours_text, signals_text, mode_text};
 
 use crate::lines::Line;
 use crate::numbers::{byte, signed, word16, word32};
 use crate::pieces::{reply_of, runs_of};
-use crate::signs::{colours_of, mode_of, signals_of};
-use sig_types::{Broken, Colour, MasterNote, Mode, Ped};
+use sig_types::{Broken, MasterNote};
 use std::alloc::{AllocError, Global};
-
-/// The words of a frame's line after its letter.
-#[derive(Clone, Copy)]
-struct FrameWords<'a> {
-    cab: &'a [u8],
-    tick: &'a [u8],
-    veh: &'a [u8],
-    ped: &'a [u8],
-    mode: &'a [u8],
-    counter: &'a [u8],
-    target: &'a [u8],
-    version: &'a [u8],
-}
-
-/// A frame of a cabinet.
-pub fn frame(words: &[&[u8]]) -> Option<Line>
-    ensures { Reads IsWorded line_words (codes "F" ∷ map (λ word. word.now) words.now) result }
-{
-    match words {
-        [cab, tick, veh, ped, mode, counter, target, version] => frame_of(&FrameWords {
-            cab,
-            tick,
-            veh,
-            ped,
-            mode,
-            counter,
-            target,
-            version,
-        }),
-        _ => None,
-    }
-}
-
-/// The frame that these words describe.
-fn frame_of(words: &FrameWords) -> Option<Line>
-    ensures { Reads IsWorded line_words (words_read words.now) result }
-{
-    let cab = word32(words.cab)?;
-    let tick = word32(words.tick)?;
-    let (veh, ped, mode) = match shown(words.veh, words.ped, words.mode) {
-        Some(shown) => shown,
-        None => return None,
-    };
-    let (counter, target, version) = match three(words.counter, words.target, words.version) {
-        Some(three) => three,
-        None => return None,
-    };
-    Some(Line::F {
-        cab,
-        tick,
-        veh,
-        ped,
-        mode,
-        counter,
-        target,
-        version,
-    })
-}
-
-/// What a frame shows, and its mode.
-fn shown(veh: &[u8], ped: &[u8], mode: &[u8]) -> Option<([Colour; 16], [Ped; 16], Mode)>
-    ensures { Reads (λ s. (length s.0 ≡ 16) × (length s.1 ≡ 16) × FitsMode s.2) (λ s. colours_text s.0 ∷ signals_text s.1 ∷ mode_text s.2 ∷ []) (veh.now ∷ ped.now ∷ mode.now ∷ []) result }
-{
-    let veh = colours_of(veh)?;
-    let ped = signals_of(ped)?;
-    let mode = mode_of(mode)?;
-    Some((veh, ped, mode))
-}
-
-/// Three numbers.
-fn three(first: &[u8], second: &[u8], third: &[u8]) -> Option<(u32, u32, u32)>
-    ensures { Reads (λ (n : ℕ × ℕ × ℕ). (n.0 < 2 ^ 32) × (n.1 < 2 ^ 32) × (n.2 < 2 ^ 32)) (λ (n : ℕ × ℕ × ℕ). decimal n.0 ∷ decimal n.1 ∷ decimal n.2 ∷ []) (first.now ∷ second.now ∷ third.now ∷ []) result }
-{
-    let first = word32(first)?;
-    let second = word32(second)?;
-    let third = word32(third)?;
-    Some((first, second, third))
-}
 
 /// The round that begins.
 pub fn round(words: &[&[u8]]) -> Option<Line>

@@ -2,6 +2,8 @@
 //! A trace is kept, compared and checked by its text, so a line has exactly one.
 #![tactic(auto)]
 
+mod frame_reading;
+mod front;
 mod kinds;
 mod lines;
 mod numbers;

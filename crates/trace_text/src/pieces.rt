@@ -3,6 +3,7 @@
 ghost use Rattle.std.specs.Prelude.{◌≡◌, ◌==◌, ◌++◌, ◌∷◌, map, IfOk, MatchOption, Option, None, Some, ◌≢◌, ◌↔◌, IsTrue};
 ghost use Rattle.std.specs.List.{slice_split};
 ghost use Rattle.hex.specs.Hex.{encode_lower};
+ghost use Rattle.trace_text.specs.Fronts.{words_left};
 ghost use Rattle.trace_text.specs.IsLine.{AreLongest, FitsRun, FitsRuns, IsReply, FitsReply, IsOctets};
 ghost use Rattle.trace_text.specs.Reads.{Reads};
 ghost use Rattle.trace_text.specs.Texts.{run_word, reply_text, octets_text};
@@ -14,8 +15,18 @@ use hex::FromHexError;
 use sig_types::Octets;
 use std::alloc::{AllocError, Global};
 
+/// The words that are left.
+pub fn words_of(alloc: Global, words: Option<&[u8]>) -> Result<Vec<&[u8]>, AllocError>
+    ensures { IfOk result (λ list. map (λ word. word.now) list.items ≡ words_left words.entry) }
+{
+    match words {
+        Some(bytes) => words_between(alloc, bytes),
+        None => Ok(Vec::new(alloc)),
+    }
+}
+
 /// The words between the spaces.
-pub fn words_of(alloc: Global, bytes: &[u8]) -> Result<Vec<&[u8]>, AllocError>
+fn words_between(alloc: Global, bytes: &[u8]) -> Result<Vec<&[u8]>, AllocError>
     ensures { IfOk result (λ words. map (λ word. word.now) words.items ≡ slice_split (λ b. b == 32) bytes.now) }
 {
     bytes.split(|b| *b == b' ').collect(alloc)
@@ -61,7 +72,7 @@ fn is_pass(before: Option<u32>, pass: u32) -> bool
 fn run_of(word: &[u8]) -> Option<(u32, u32)>
     ensures { Reads FitsRun run_word word.now result }
 {
-    let (pass, count) = match around_star(word) {
+    let (pass, count) = match around(word, b'*') {
         Some(parts) => parts,
         None => return None,
     };
@@ -75,13 +86,13 @@ fn run_of(word: &[u8]) -> Option<(u32, u32)>
     }
 }
 
-/// What is before the first star, and what after it.
-fn around_star(word: &[u8]) -> Option<(&[u8], &[u8])>
-    ensures { MatchOption result (Lacks 42 word.now) (λ parts. Lacks 42 parts.0.now × (word.now ≡ parts.0.now ++ 42 ∷ parts.1.now)) }
+/// What is before the first of these bytes, and what after it.
+pub fn around(bytes: &[u8], byte: u8) -> Option<(&[u8], &[u8])>
+    ensures { MatchOption result (Lacks byte bytes.now) (λ parts. Lacks byte parts.0.now × (bytes.now ≡ parts.0.now ++ byte ∷ parts.1.now)) }
 {
-    for i in 0..word.len() {
-        if word[i] == b'*' {
-            return Some((&word[..i], &word[i + 1..]));
+    for i in 0..bytes.len() {
+        if bytes[i] == byte {
+            return Some((&bytes[..i], &bytes[i + 1..]));
         }
     }
     None

@@ -1,12 +1,15 @@
 //! Reading a line: its newline, its words, and by its first word its kind.
 
-ghost use Rattle.std.specs.Prelude.{◌≡◌, ◌≢◌, ◌↔◌, ◌∷◌, map, IfOk, IfSome, IsTrue, Option, Some, None, false};
+ghost use Rattle.std.specs.Prelude.{◌≡◌, ◌≢◌, ◌↔◌, ◌∷◌, [], IfOk, IfSome, IsTrue, Option, Some, None, false};
+ghost use Rattle.trace_text.specs.Fronts.{words_left};
 ghost use Rattle.trace_text.specs.IsLine.{IsLine, IsWorded};
 ghost use Rattle.trace_text.specs.Line.{line_text, line_words};
 ghost use Rattle.trace_text.specs.Reads.{Reads};
 ghost use Rattle.trace_text.specs.Words.{unended, Lacks};
 
-use crate::kinds::{end, frame, journal, load, master_note, reply, round};
+use crate::frame_reading::frame;
+use crate::front::next_word;
+use crate::kinds::{end, journal, load, master_note, reply, round};
 use crate::lines::{Line, Text};
 use crate::pieces::words_of;
 use sig_types::NoMemory;
@@ -68,30 +71,28 @@ fn has_newline(bytes: &[u8]) -> bool
 fn worded_line(alloc: Global, bytes: &[u8]) -> Result<Option<Line>, AllocError>
     ensures { IfOk result (Reads IsWorded (λ line. unended (line_words line)) bytes.now) }
 {
-    let words = words_of(alloc, bytes)?;
-    line_of_words(alloc, &words)
-}
-
-fn line_of_words(alloc: Global, words: &[&[u8]]) -> Result<Option<Line>, AllocError>
-    ensures { IfOk result (Reads IsWorded line_words (map (λ word. word.now) words.now)) }
-{
-    match words {
-        [kind, words @ ..] => line_of_kind(alloc, kind, words),
-        [] => Ok(None),
+    match next_word(Some(bytes)) {
+        Some((kind, words)) => line_of_kind(alloc, kind, words),
+        None => Ok(None),
     }
 }
 
-fn line_of_kind(alloc: Global, kind: &[u8], words: &[&[u8]]) -> Result<Option<Line>, AllocError>
-    ensures { IfOk result (Reads IsWorded line_words (kind.now ∷ map (λ word. word.now) words.now)) }
+/// The line of a kind, by its first word and what is left after it.
+fn line_of_kind(
+    alloc: Global,
+    kind: &[u8],
+    words: Option<&[u8]>,
+) -> Result<Option<Line>, AllocError>
+    ensures { IfOk result (Reads IsWorded line_words (kind.now ∷ words_left words.entry)) }
 {
     match kind {
         [b'F'] => Ok(frame(words)),
-        [b'R'] => Ok(round(words)),
-        [b'M'] => Ok(master_note(words)),
-        [b'J'] => journal(alloc, words),
-        [b'L'] => Ok(load(words)),
-        [b'A'] => reply(alloc, words),
-        [b'Z'] => Ok(end(words)),
+        [b'R'] => Ok(round(&words_of(alloc, words)?)),
+        [b'M'] => Ok(master_note(&words_of(alloc, words)?)),
+        [b'J'] => journal(alloc, &words_of(alloc, words)?),
+        [b'L'] => Ok(load(&words_of(alloc, words)?)),
+        [b'A'] => reply(alloc, &words_of(alloc, words)?),
+        [b'Z'] => Ok(end(&words_of(alloc, words)?)),
         _ => Ok(None),
     }
 }

@@ -1,4 +1,4 @@
--- Counts to which lines are added.
+-- Totals to which lines are added.
 use Rattle.std.specs.Prelude.{List, ◌++◌, [], ◌∷◌}
 use Rattle.std.proofs.Common.{◌≡◌, ◌+◌, ℕ, arith}
 use Rattle.trace_text.specs.declared.lines.Line.{Line}
@@ -9,7 +9,7 @@ use Rattle.whole_run.specs.declared.counts.Uncounted.{Uncounted}
 use Rattle.whole_run.specs.declared.counts.Uncounted.TheVariants.{NoMemory}
 use Rattle.whole_run.specs.Counting.{total, is_first, is_round, ticks_in, is_frame, is_reply, is_accepted, is_refused}
 
--- the new numbers are the old ones and those of these lines
+-- the new totals are the old totals plus those of these lines
 pub record Adds (old new : Counts) (lines : List Line) : Type 0 where
   pub cabinets : new.cabinets ≡ old.cabinets + total is_first lines
   pub rounds : new.rounds ≡ old.rounds + total is_round lines
@@ -19,7 +19,7 @@ pub record Adds (old new : Counts) (lines : List Line) : Type 0 where
   pub accepted : new.accepted ≡ old.accepted + total is_accepted lines
   pub refused : new.refused ≡ old.refused + total is_refused lines
 
--- of numbers whose counting stopped nothing is said
+-- nothing is stated about totals whose counting stopped
 abbrev pub StopsCounting : Counts → Counts → Uncounted → List Line → Type 0
 StopsCounting old new fail lines = Unit {0}
 

@@ -1,4 +1,4 @@
--- What a pen, a writer with its sink, has taken.
+-- What a pen has taken; a pen is a writer with its sink.
 use Rattle.std.specs.Prelude.{◌≡◌, ℕ, Bool, List, Option, Ok, Err}
 use Rattle.trace_text.specs.declared.lines.Line.{Line}
 use Rattle.trace_writer.specs.declared.writer.Stop.{Stop}
@@ -16,7 +16,7 @@ abbrev pub pen_told : {K : Type 0} → (K → Option (List ℕ)) → (K → ℕ)
 pen_told written faults exact a b lines =
     SamePen a b × HandsOver written faults exact (Ok tt) a.writer.now b.writer.now a.sink.now b.sink.now (lines_text lines)
 
--- handing over the text of the lines stopped
+-- the pen stopped while the text of the lines was handed over
 abbrev pub pen_stopped : {K : Type 0} → (K → Option (List ℕ)) → (K → ℕ) → Bool → Pen K → Pen K → Stop → List Line → Type 0
 pen_stopped written faults exact a b stop lines =
     SamePen a b × HandsOver written faults exact (Err stop) a.writer.now b.writer.now a.sink.now b.sink.now (lines_text lines)

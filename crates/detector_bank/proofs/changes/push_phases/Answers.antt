@@ -21,7 +21,7 @@ loop-done-preserved c = λ ds ps j r a b.
     let n = c.loop-done.done in
     phases-next ds ps j c.args.cabinet n c.args.round (n + 1) c.has.result c.has-in-loop-done.result c.args.calls.now.items c.loop-done.calls.items _ r refl
     (c.has.ensures.has ∙ a (n + 1) (omega arith) (omega arith)) (c.has-in-loop-done.ensures.has ∙ b (n + 1) (omega arith) (omega arith))
-    (c.loop-done.invariant ds ps j r a b) c.in-Ok.ensures
+    (c.loop-done.invariant ds ps j r a b) c.in_ok-push_change.ensures
 
 pub returns : goal.returns
 unfolding all_phases_changes

@@ -7,12 +7,12 @@ pub loop-done-init : goal.loop-done-init
 loop-done-init c =
     let ds = c.args.bank.now.items in
     let ps = c.args.pulses.now.items in
-    let w = c.in-Ok.ensures in
-    let tallies = c.new-calling.ensures ds c.in-Ok.walk.detector_states.items w.none in record {
+    let w = c.in_ok-walk.ensures in
+    let tallies = c.new-calling.ensures ds c.in_ok-walk.walk.detector_states.items w.none in record {
       fits = w.fits;
       stands = w.stands;
       tallies = tallies;
-      before = sets-called c.new-calling.result ds c.in-Ok.walk.detector_states.items ps 0 w.fits.detector_states (λ k p d low. (w.stands.each k p d low).told) tallies;
+      before = sets-called c.new-calling.result ds c.in_ok-walk.walk.detector_states.items ps 0 w.fits.detector_states (λ k p d low. (w.stands.each k p d low).told) tallies;
       calls = c.new-calls.ensures.items;
     }
 
@@ -30,5 +30,5 @@ loop-done-preserved c =
       stands = stands;
       tallies = tallies;
       before = now;
-      calls = c.in-Ok-push_changes.ensures ds ps l.done refl now l.invariant.before ∙ ap (λ cs. cs ++ round_changes ds ps l.done) l.invariant.calls ∙ calls-more ds ps l.done;
+      calls = c.in_ok-push_changes.ensures ds ps l.done refl now l.invariant.before ∙ ap (λ cs. cs ++ round_changes ds ps l.done) l.invariant.calls ∙ calls-more ds ps l.done;
     }

@@ -11,10 +11,10 @@ loop-k-preserved c =
     let e = c.index.result.now in
     let inside : l.k < length ds = omega arith in
     let w = l.invariant.walked in record {
-      walked = walked-next c.args.walk.now l.walk c.edge_at.new.walk ds c.args.round l.k e inside c.index.ensures w c.in-Ok.ensures.looks;
+      walked = walked-next c.args.walk.now l.walk c.edge_at.new.walk ds c.args.round l.k e inside c.index.ensures w c.in_ok-edge_at.ensures.looks;
       edges = λ ps j is h.
           edges-next ps c.args.round ds l.k e _ l.edges.items c.edge_at.new.edges.items inside
-          (c.in-Ok.ensures.edges ps j no-detector_state is (walked-sorts c.args.walk.now l.walk ds c.args.round l.k w ps j h)
+          (c.in_ok-edge_at.ensures.edges ps j no-detector_state is (walked-sorts c.args.walk.now l.walk ds c.args.round l.k w ps j h)
           (walked-before c.args.walk.now l.walk ds c.args.round l.k e inside c.index.ensures w ps j no-detector_state h) ∙ ap (λ f. l.edges.items ++ edge_of ps c.args.round f) c.index.ensures)
           (l.invariant.edges ps j is h);
     }

@@ -4,7 +4,7 @@ use Rattle.scenario_data.specs.declared.refusal.ReadFail.TheVariants.{Refused}
 use Rattle.scenario_data.specs.Content.{scenario_content}
 use Rattle.scenario_read.specs.Answers.{IsScenario, IsFirstFault}
 use Rattle.scenario_checked.proofs.Ranges.{runs}
-use Rattle.session_laws.specs.Dialogue.{IsOrderFault}
+use Rattle.run_definition.specs.SessionDialogue.{IsOrderFault}
 use Rattle.station.specs.Lived.{IsFirstLineFault}
 use Rattle.station.proofs.Refusals.{line_elsewhere, line_refused}
 use Rattle.station.proofs.living.base.Goals as goal

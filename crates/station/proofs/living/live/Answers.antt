@@ -3,7 +3,7 @@ use Rattle.scenario_data.specs.Content.{scenario_content}
 use Rattle.scenario_data.specs.declared.refusal.Refusal.{Refusal}
 use Rattle.trace_writer.proofs.Handed.{rises_later}
 use Rattle.session_words.specs.Unread.{unread}
-use Rattle.session_laws.specs.Session.{opened_session}
+use Rattle.run_definition.specs.Session.{opened_session}
 use Rattle.station.specs.Io.{Io, io_of}
 use Rattle.station.specs.Lived.{LiveAnswer}
 use Rattle.station.specs.Living.{IsAnswering}

@@ -1,8 +1,8 @@
 use Rattle.std.proofs.Common.{◌≡◌, ◌∙◌, ap, ◌++◌, List, ℕ, subst}
 use Rattle.io_edge.specs.Edge.{Rises}
 use Rattle.scenario_data.specs.Content.{scenario_content}
-use Rattle.session_laws.specs.Answers.{Lines, open_lines}
-use Rattle.session_laws.specs.Dialogue.{answer_text}
+use Rattle.run_definition.specs.SessionAnswers.{Lines, open_lines}
+use Rattle.run_definition.specs.SessionDialogue.{answer_text}
 use Rattle.station.specs.declared.status.Status.{Status}
 use Rattle.station.specs.Living.{StopsAtOpening}
 use Rattle.station.proofs.Sessions.{opening_stops}

@@ -1,9 +1,10 @@
-use Rattle.std.proofs.Common.{◌∙◌, ap, map, List, ℕ, Bor}
+use Rattle.std.proofs.Common.{sym}
 use Rattle.trace_text.proofs.Reading.{ok_then}
-use Rattle.trace_text.proofs.Spaces.{reads_text}
+use Rattle.trace_text.proofs.Spaces.{reads_text, none_worded}
 use Rattle.trace_text.proofs.read.worded_line.Goals as goal
 
-pub returns : goal.returns
-returns c =
-    let words = ap (map (λ (word : Bor (List ℕ)). word.now)) c.deref.ensures.value ∙ c.in_ok-words.ensures in
-    ok_then _ _ (reads_text _ _ words) _ c.line_of_words.ensures
+pub returns-in-Some : goal.returns-in-Some
+returns-in-Some c = ok_then _ _ (reads_text _ _ (sym c.in-Some.ensures)) _ c.line_of_kind.ensures
+
+pub returns-in-None : goal.returns-in-None
+returns-in-None c = none_worded _ (sym c.in-None.ensures)

@@ -1,7 +1,7 @@
 use Rattle.std.proofs.Common.{◌≡◌, ℕ, List, ◌++◌, sym, ◌∙◌, ap, subst}
 use Rattle.session_words.specs.Unread.{given_line}
-use Rattle.session_laws.specs.Answers.{answer_to}
-use Rattle.session_laws.specs.Dialogue.{answer_text}
+use Rattle.run_definition.specs.SessionAnswers.{answer_to}
+use Rattle.run_definition.specs.SessionDialogue.{answer_text}
 use Rattle.station.specs.Living.{AnswersThis}
 use Rattle.station.proofs.living.Dialogue.answer_line.Goals as goal
 
