@@ -57,8 +57,9 @@ def at_once(do, several):
 
 @pytest.fixture
 def device():
-    """A device whose time advances with each message."""
-    with Device() as it:
+    """A device whose time advances with each message. Its program is the proved one, which takes half of the model's
+    CPU time: what these tests show doesn't depend on who computes the ticks."""
+    with Device(program=PROGRAM) as it:
         yield it
 
 

@@ -9,7 +9,7 @@ from streettools.cabinet.messages import GET, message, reply_of
 from streettools.shared import oids, snmp
 from streettools.shared.snmp import SET
 
-from .conftest import STEP, Device, conform, reported
+from .conftest import PROGRAM, STEP, Device, conform, reported
 from .relays import UP_TIME, Relay, as_it_is, is_poll, with_value
 
 FIRST, SECOND = "start-up-all-red", "start-up-with-walk"
@@ -197,7 +197,7 @@ def test_a_device_with_other_phases_does_the_tests_of_its_phases(tmp_path):
     ]  # fmt: skip
     path = tmp_path / "four.json"
     path.write_text(json.dumps({"version": 1, "rounds": 9, "ticks": 10, "cabinets": [{"cells": cells}]}))
-    with Device("--scenario", path, *STEP) as device:
+    with Device("--scenario", path, *STEP, program=PROGRAM) as device:
         report, status = reported(device.where, "--only", "barrier-order", "--only", "dual-entry", folder=tmp_path)
     assert result(report, "dual-entry")["outcome"] == "pass"
     it = result(report, "barrier-order")

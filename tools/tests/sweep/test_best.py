@@ -36,7 +36,7 @@ travel = {travel}
 [best]
 goal = {goal}
 wanted = "highest"
-budget = 200
+budget = 57
 """
 WAITS = """\
 scenario = "two.json"
@@ -132,11 +132,11 @@ def test_the_search_finds_the_bands_that_all_offsets_of_three_cabinets_have(tmp_
     (tmp_path / "three.json").write_text(json.dumps(THREE))
     names = [f"band_{way} = {weight}" for way, weight in zip(("outbound", "inbound"), weights) if weight]
     study = BANDS.format(travel=list(travel), goal="{ " + ", ".join(names) + " }")
-    status, _, said = best(tmp_path, study + OFFSET.format(2, 84, 6) + OFFSET.format(3, 84, 6))
+    status, _, said = best(tmp_path, study + OFFSET.format(2, 84, 12) + OFFSET.format(3, 84, 12))
     assert status == 0, said
     every = {
         pair: sum(weight * width for weight, width in zip(weights, widths(program, pair, travel)))
-        for pair in itertools.product(range(0, 85, 6), repeat=2)
+        for pair in itertools.product(range(0, 85, 12), repeat=2)
     }
     rows = [it for it in table(tmp_path) if it["offset2"]]
     for it in rows:
