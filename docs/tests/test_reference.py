@@ -147,7 +147,7 @@ def test_an_object_has_its_identifier_and_by_what_it_changes(row):
 
 
 def test_each_object_of_the_front_end_has_one_name():
-    found = [[base for base in front_objects.NAMED if arcs[: len(base)] == base] for arcs in OBJECTS]
+    found = [[base for base in front_objects.NAMED if arcs[: len(base)] == base] for arcs in OBJECTS.types]
     assert [it for it in found if len(it) != 1] == []
     assert {it[0] for it in found} == {*front_objects.NAMED}
 

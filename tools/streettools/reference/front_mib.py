@@ -6,7 +6,7 @@ from collections.abc import Iterator
 from ..shared.ber import Arcs
 from ..shared.mib import OWN_MIB, objects
 from ..shared.oids import SYSTEM
-from ..street.ntcip.objects import OBJECTS, WRITABLE
+from ..street.ntcip.objects import WRITABLE
 from .front_objects import GROUPS, NAMED, ROWS, Named, Row
 
 IMPORTED = ("arterialProfile", "asc", "devices", "phase", "coord", "preempt", "preemptEntry", "ring",
@@ -22,7 +22,7 @@ ARTERIAL-FRONT-MIB DEFINITIONS ::= BEGIN
 -- tools/reference makes this file.
 
 IMPORTS
-    MODULE-IDENTITY, OBJECT-TYPE, Integer32, Unsigned32, Counter32
+    MODULE-IDENTITY, OBJECT-TYPE, Integer32, Unsigned32, Counter32, Opaque
         FROM SNMPv2-SMI
     MODULE-COMPLIANCE, OBJECT-GROUP
         FROM SNMPv2-CONF
@@ -104,7 +104,7 @@ def text() -> str:
             row = ROWS[arcs[:-1]]
             parts += row_of(arcs[:-1], row, nodes[arcs[:-3]])
             nodes[arcs[:-1]] = f"{row.name}Entry"
-        is_writable = any(name in WRITABLE for name in OBJECTS if name[: len(arcs)] == arcs)
+        is_writable = any(name[: len(arcs)] == arcs for name in WRITABLE)
         access = "read-write" if is_writable else "read-only"
         parts.append(stated(it.name, it.syntax, access, it.text, f"{nodes[arcs[:-1]]} {arcs[-1]}"))
         shown.append(f"        {it.name}")

@@ -156,6 +156,59 @@ ACTIONS: dict[Arcs, Named] = {
         "The action that is scheduled at the time of the master's clock; 0 without a schedule.",
     ),
 }  # fmt: skip
+CONFIG, LOG, CLASS = GLOBAL + (4, 2, 1), GLOBAL + (4, 4, 1), GLOBAL + (4, 6, 1)
+MODES = (
+    "INTEGER { onChange(2), greaterThanValue(3), smallerThanValue(4), hysteresisBound(5), periodic(6), "
+    "andedWithValue(7) }"
+)
+INT, TENTHS = "Integer32", "tenths of a second that the condition lasts"
+REPORTS: dict[Arcs, Named] = {
+    GLOBAL + (4, 1): of_global("maxEventLogConfigs", "Integer32 (32)", "The number of configurations."),
+    CONFIG + (1,): of_global("eventConfigID", "Integer32 (1..32)", "The number of the row. It can be read."),
+    CONFIG + (2,): of_global("eventConfigClass", "Integer32 (1..8)", "The class of its events."),
+    CONFIG + (3,): of_global("eventConfigMode", MODES, "When there is an event (docs/SNMP-CONFORMANCE.md)."),
+    CONFIG + (4,): of_global(
+        "eventConfigCompareValue", INT, "The number that is compared; of periodic, the seconds of a period.",
+        "the unit of a period",
+    ),
+    CONFIG + (5,): of_global(
+        "eventConfigCompareValue2", INT, f"The other bound of hysteresisBound; otherwise the {TENTHS}.",
+        "whether it counts tenths of a second",
+    ),
+    CONFIG + (6,): of_global("eventConfigCompareOID", OID, "The instance that is compared; 0.0 if there is none."),
+    CONFIG + (7,): of_global("eventConfigLogOID", OID, "The instance whose value is logged; 0.0 if there is none."),
+    CONFIG + (8,): of_global("eventConfigAction", "INTEGER { disabled(2), log(3) }", "Whether events are looked for."),
+    CONFIG + (9,): of_global(
+        "eventConfigStatus", "INTEGER { disabled(2), log(3), error(4) }",
+        "What the configuration does. error: an object didn't exist, or was not a number, when it was read last.",
+        "the values",
+    ),
+    GLOBAL + (4, 3): of_global("maxEventLogSize", "Integer32 (2040)", "The most rows of the log: 255 for each class."),
+    LOG + (1,): of_global("eventLogClass", "Integer32 (1..8)", "The class of the event. It can be read."),
+    LOG + (2,): of_global(
+        "eventLogNumber", "Integer32 (1..255)", "The number in its class; the oldest event is 1. It can be read.",
+        "whether the numbers move if the oldest event goes",
+    ),
+    LOG + (3,): of_global("eventLogID", "Integer32 (1..32)", "The configuration that found the event."),
+    LOG + (4,): of_global("eventLogTime", "Counter32", "globalTime when the event was found."),
+    LOG + (5,): of_global(
+        "eventLogValue", "Opaque",
+        "The value of eventConfigLogOID with its tag and length; NULL in place of one of more than 64 octets, and of "
+        "one that doesn't exist.",
+    ),
+    GLOBAL + (4, 5): of_global("maxEventClasses", "Integer32 (8)", "The number of classes."),
+    CLASS + (1,): of_global("eventClassNumber", "Integer32 (1..8)", "The number of the row. It can be read."),
+    CLASS + (2,): of_global("eventClassLimit", BYTE, "The most rows of the class. The oldest go if there are more."),
+    CLASS + (3,): of_global(
+        "eventClassClearTime", "Counter32", "A Set clears the events of the class that aren't later than this time."
+    ),
+    CLASS + (4,): of_global("eventClassDescription", TEXT, "What a central calls the class."),
+    CLASS + (5,): of_global("eventClassNumRowsInLog", BYTE, "The rows of the class."),
+    CLASS + (6,): of_global(
+        "eventClassNumEvents", "Counter32", "The events that were found, from 0 again after 65535.",
+        "whether it is a Counter, and whether 65535 is its last number",
+    ),
+}  # fmt: skip
 PHASES: dict[Arcs, Named] = {
     ASC + (1, 1): most("maxPhases", "phases", 16),
     ASC + (1, 3): most("maxPhaseGroups", "groups of eight phases", 2),
@@ -254,13 +307,16 @@ RINGS: dict[Arcs, Named] = {
     ),
 }  # fmt: skip
 NAMED: dict[Arcs, Named] = {
-    **system(), **GLOBALS, **TIMES, **PHASES, **DETECTORS, **UNIT, **COORD, **ACTIONS, **PREEMPTS, **RINGS
+    **system(), **GLOBALS, **TIMES, **REPORTS, **PHASES, **DETECTORS, **UNIT, **COORD, **ACTIONS, **PREEMPTS, **RINGS
 }  # fmt: skip
 """The objects by their arcs without the last, in the order of a walk."""
 ROWS: dict[Arcs, Row] = {
     GLOBAL + (1, 3, 1): Row("module", "moduleNumber", "A module: here one, the software."),
     SCHEDULE: Row("timeBaseSchedule", "timeBaseScheduleNumber", "An entry of the schedule: here one."),
     EVENT: Row("timeBaseDayPlan", "dayPlanNumber, dayPlanEventNumber", "An event of the day plan."),
+    CONFIG: Row("eventLogConfig", "eventConfigID", "When an event is found, and what is logged then."),
+    LOG: Row("eventLog", "eventLogClass, eventLogNumber", "An event that was found."),
+    CLASS: Row("eventClass", "eventClassNumber", "A class of events."),
     ACTION: Row("timebaseAscAction", "timebaseAscActionNumber", "A pattern that an event may command."),
     PHASE_CONTROL: Row("phaseControlGroup", "phaseControlGroupNumber", "The calls of eight phases."),
     DETECTOR_GROUP: Row(
@@ -275,7 +331,7 @@ ROWS: dict[Arcs, Row] = {
 """The tables of which the front end has all columns that there are, by the arcs of their rows."""
 GROUPS: dict[Arcs, str] = {
     GLOBAL: "global", GLOBAL + (1,): "globalConfiguration", GLOBAL + (2,): "globalDBManagement",
-    GLOBAL + (3,): "globalTimeManagement", GLOBAL + (3, 3): "timebase", ASC + (5,): "timebaseAsc",
-    ASC + (2,): "detector", ASC + (2, 5): "volumeOccupancyReport", ASC + (3,): "unit",
+    GLOBAL + (3,): "globalTimeManagement", GLOBAL + (3, 3): "timebase", GLOBAL + (4,): "globalReport",
+    ASC + (5,): "timebaseAsc", ASC + (2,): "detector", ASC + (2, 5): "volumeOccupancyReport", ASC + (3,): "unit",
 }  # fmt: skip
 """The nodes above them that ARTERIAL-PROFILE-MIB doesn't have, each below one that is known."""

@@ -115,18 +115,24 @@ def profile(text: str) -> Iterator[str]:
         yield table(("Object", "Identifier", "Access", "Values", "Meaning"), rows)
 
 
+def instances(base: Arcs) -> str:
+    """Returns the indexes of an object's instances in words."""
+    found = [arcs for arcs in OBJECTS.fixed_names() if arcs[: len(base)] == base]
+    if not found:
+        return "c.n, of class c and row n"
+    last = sorted(arcs[-1] for arcs in found)
+    before = "".join(f"{it}." for it in found[0][len(base) : -1])
+    return before + (str(last[0]) if len(last) == 1 else f"n, n from {last[0]} to {last[-1]}")
+
+
 def front() -> Iterator[str]:
     """Yields the part about the front end: each object once, with the range of its last arc."""
     yield FRONT
     rows = []
     for base, it in NAMED.items():
-        found = [arcs for arcs in OBJECTS if arcs[: len(base)] == base]
-        last = sorted(arcs[-1] for arcs in found)
-        before = "".join(f"{it}." for it in found[0][len(base) : -1])
-        end = before + (str(last[0]) if len(last) == 1 else f"n, n from {last[0]} to {last[-1]}")
-        access = "read, Set" if found[0] in WRITABLE else "read"
+        access = "read, Set" if any(arcs[: len(base)] == base for arcs in WRITABLE) else "read"
         syntax = it.syntax.replace("Integer32", "INTEGER")
-        shown = (f"`{it.name}`", f"{dotted(base)}.{end}", access, escaped(syntax), escaped(it.text))
+        shown = (f"`{it.name}`", f"{dotted(base)}.{instances(base)}", access, escaped(syntax), escaped(it.text))
         rows.append((*shown, it.source.value, it.doubt))
     yield table(("Object", "Instance", "Access", "Values", "Meaning", "Source", "Doubts"), rows)
 

@@ -65,6 +65,9 @@ class Hearer:
         """Returns the inputs that are pending when `ticks` ticks were taken, as requests."""
         return []
 
+    async def advanced(self) -> None:
+        """Time has advanced: what reads objects of cabinets from time to time does it here."""
+
     def is_full(self) -> bool:
         """Tells whether the session should end here."""
         return False
@@ -183,6 +186,7 @@ class Street:
             async with self.order:
                 yield
                 await self.session.take(self.after_message)
+                await self.advanced()
         finally:
             self.turns -= 1
 
@@ -230,7 +234,14 @@ class Street:
                     await self.input(request)
             now = min(count, stride, self.ticks_left())
             await self.session.take(now)
+            await self.advanced()
             count -= now
+
+    async def advanced(self) -> None:
+        """Lets hearers do what they do when time has advanced."""
+        for hearer in self.hearers:
+            with failing(hearer):
+                await hearer.advanced()
 
     def ticks_left(self) -> int:
         """Returns how many ticks are left until the session changes: that is some ticks before its last one, which

@@ -88,7 +88,7 @@ def test_each_alarm_sets_its_bits(name, due):
         street, cabinet, side = type("Street", (), {"alarms": {1: {name}}})(), 1, Side()
 
     assert name in ALARMS
-    assert [number_of(asyncio.run(OBJECTS[it](Front())).content) for it in (UNIT_2, UNIT_1, SHORT)] == due
+    assert [number_of(asyncio.run(OBJECTS.read(Front(), it)).content) for it in (UNIT_2, UNIT_1, SHORT)] == due
 
 
 def test_an_alarm_is_set_and_cleared(ordered):

@@ -1,40 +1,36 @@
 """The front: which part of a message the cabinet answers, and which the front itself."""
 
 import asyncio
-import bisect
 import contextlib
 import functools
 
-from ...shared.ber import (
-    COUNTER, END_OF_VIEW, GAUGE, INTEGER, NO_SUCH_INSTANCE, NO_SUCH_OBJECT, Arcs, Field, number_of, unsigned_of,
-)  # fmt: skip
+from ...shared.ber import END_OF_VIEW, INTEGER, NO_SUCH_INSTANCE, NO_SUCH_OBJECT, Arcs, Field
 from ...shared.cells import PATTERNS
 from ...shared.oids import CLOCK, CONTROL, ENTRIES, GLOBAL_TIME, PREEMPT_STATE, TRANSACTION, VEH_CALL
 from ...shared.snmp import BULK, GET, GET_NEXT, SET, V1, V2C, Binding, Message, head_of
+from . import report
 from ..known import DAY
 from ..street import LONGEST, NOBODY, Manager, Street
-from .judging import has_type, is_of_a_download, is_of_a_table, of_the_cabinet
+from .eventlog import EventLog
+from .judging import has_type, is_of_a_download, is_of_a_table, misfit, number_in, of_the_cabinet
 from .managers import Copies, Managers
-from .objects import OBJECTS, ORDER, TYPES, WRITABLE
+from .objects import OBJECTS, TYPES, WRITABLE
 from .order import InOrder
 from .pdus import (
-    GEN_ERR, MOST_OCTETS, NO_SUCH_NAME, NOT_WRITABLE, WRONG_TYPE, WRONG_VALUE, Fault, asked_of, asks_nothing_else,
-    cut_reply, in_version, reply, response, whole,
+    GEN_ERR, MOST_OCTETS, NO_SUCH_NAME, NOT_WRITABLE, Fault, asked_of, asks_nothing_else, cut_reply, in_version, reply,
+    response, whole,
 )  # fmt: skip
 from .reads import Front
 from .shown import Shown
 from .side import Silent
 from .transaction import GATHERING, NORMAL
+from .watch import MOST_BINDS, Watch, compare, values
 
-MOST_BINDS = 32
-"""The most bindings that a cabinet takes in a message."""
 MOST_REPEATED = 128
-ALL_BITS, BITS = 255, range(8)
+BITS = range(8)
 FREE = 254
 """The command of free operation."""
 STATES = (b"off", b"on")
-WHOLE_TIME = (INTEGER, COUNTER, GAUGE)
-"""As what the time may be set: globalTime is a Counter, which net-snmp sends as a Gauge."""
 
 Parted = list[tuple[int, Binding]]
 """Bindings, each with its index in the message."""
@@ -56,7 +52,7 @@ class Cabinet:
         if not is_carried:
             self.managers.begins_anew()
             self.copies.begins_anew((GEN_ERR, 1))
-        self.front = Front(street, cabinet, self.managers)
+        self.front = Front(street, cabinet, self.managers, before.front.log if before else EventLog())
         self.transaction = self.front.transaction
         self.order = asyncio.Lock()
         self.in_order = InOrder()
@@ -77,6 +73,7 @@ class Cabinet:
                 return None
             with contextlib.suppress(Silent):
                 async with self.order:
+                    await compare(self.front)
                     return await self.carried_out(asked, octets, manager)
         return None
 
@@ -88,7 +85,11 @@ class Cabinet:
         names = [it.arcs for it in asked.bindings]
         sets = asked.kind == SET and not is_of_a_download(names)
         takes = sets or self.transaction.state == GATHERING
-        return not any(it in OBJECTS or takes and is_of_a_table(it) or sets and it == CONTROL for it in names)
+        return not any(self.is_own(it) or takes and is_of_a_table(it) or sets and it == CONTROL for it in names)
+
+    def is_own(self, name: Arcs) -> bool:
+        """Tells whether a name is that of an object of the front."""
+        return OBJECTS.has(self.front, name)
 
     async def carried_out(self, asked: Message, octets: bytes, manager: Manager) -> bytes:
         """Returns the reply to a message that is carried out here."""
@@ -111,7 +112,7 @@ class Cabinet:
         names an object of the front or more than the cabinet takes, or if the cabinet doesn't answer without error."""
         if asked.version == V1 or len(asked.bindings) > MOST_BINDS or not asks_nothing_else(asked):
             return None
-        if any(it.arcs in OBJECTS for it in asked.bindings) or not (as_v1 := in_version(octets, V2C, V1)):
+        if any(OBJECTS.has(self.front, it.arcs) for it in asked.bindings) or not (as_v1 := in_version(octets, V2C, V1)):
             return None
         answer = await self.street.message(self.number, as_v1)
         if answer is None or head_of(answer)[0].first:
@@ -122,11 +123,7 @@ class Cabinet:
         """Returns the values of objects. In version 1 a missing object is a fault; in later versions it is reported in
         place of its value."""
         names = [it.arcs for it in asked.bindings]
-        own = {name: await OBJECTS[name](self.front) for name in names if name in OBJECTS}
-        others = list(dict.fromkeys(name for name in names if name not in own))
-        found: dict[Arcs, Field | None] = dict(own)
-        for at in range(0, len(others), MOST_BINDS):
-            found |= await self.front.side.get(others[at : at + MOST_BINDS])
+        found = await values(self.front, names)
         missing = next((at for at, name in enumerate(names, 1) if found[name] is None), None)
         if missing and asked.version == V1:
             raise Fault(NO_SUCH_NAME, missing)
@@ -134,12 +131,11 @@ class Cabinet:
 
     async def following(self, name: Arcs) -> Binding | None:
         """Returns the first object after a name, of the front or of the cabinet; None after the last."""
-        place = bisect.bisect_right(ORDER, name)
-        own = ORDER[place] if place < len(ORDER) else None
+        own = OBJECTS.following(self.front, name)
         other = await self.front.side.next(name)
         if own is None or other is not None and other.arcs < own:
             return other
-        return Binding(own, await OBJECTS[own](self.front))
+        return Binding(own, await OBJECTS.read(self.front, own))
 
     async def got_next(self, asked: Message, binds: list[Binding]) -> list[Binding]:
         """Returns the objects after some names."""
@@ -194,7 +190,7 @@ class Cabinet:
         self.transaction.gather(cells, manager)
         for at, it in own:
             if it.arcs == TRANSACTION:
-                await self.transaction.go_to(value_of(it.value), manager, asked.number)
+                await self.transaction.go_to(number_in(it.value), manager, asked.number)
             else:
                 await self.do(at, it)
 
@@ -205,7 +201,7 @@ class Cabinet:
         state = self.transaction.state
         takes = state == GATHERING or state == NORMAL and not is_of_a_download([it.arcs for it in asked.bindings])
         for at, it in enumerate(asked.bindings, 1):
-            if it.arcs in OBJECTS:
+            if self.is_own(it.arcs):
                 own.append((at, it))
             elif takes and is_of_a_table(it.arcs):
                 cells.append((at, it))
@@ -229,9 +225,9 @@ class Cabinet:
     async def commanded(self, it: Binding) -> Binding:
         """Returns what the cabinet is sent for a binding: free operation in place of a pattern that isn't defined, as
         controllers do it."""
-        if it.arcs != CONTROL or it.value.tag != INTEGER or value_of(it.value) not in PATTERNS:
+        if it.arcs != CONTROL or it.value.tag != INTEGER or number_in(it.value) not in PATTERNS:
             return it
-        (cycle,) = await self.front.side.numbers(ENTRIES["pattern"] + (2, value_of(it.value)))
+        (cycle,) = await self.front.side.numbers(ENTRIES["pattern"] + (2, number_in(it.value)))
         return it if cycle else Binding(CONTROL, whole(FREE))
 
     async def put_cells(self, cells: Parted, count: int, manager: Manager) -> None:
@@ -243,23 +239,21 @@ class Cabinet:
 
     def test(self, at: int, it: Binding, count: int) -> None:
         """Raises Fault if a binding can't set an object of the front, in a message of `count` bindings."""
-        if it.arcs not in WRITABLE:
+        kind = WRITABLE.get(it.arcs)
+        if kind is None:
             raise Fault(NOT_WRITABLE, at)
-        if it.value.tag not in (WHOLE_TIME if it.arcs == GLOBAL_TIME else (INTEGER,)):
-            raise Fault(WRONG_TYPE, at)
-        value = value_of(it.value)
-        most = 1 if it.arcs[:-1] == PREEMPT_STATE else ALL_BITS
-        if value < 0 or it.arcs != GLOBAL_TIME and value > most:
-            raise Fault(WRONG_VALUE, at)
+        if status := misfit(kind, it.value):
+            raise Fault(status, at)
         if it.arcs == TRANSACTION and count > 1:
             raise Fault(GEN_ERR, at)
 
     async def do(self, at: int, it: Binding) -> None:
         """Does what the setting of an object of the front asks for. What the street refuses is raised."""
-        value = value_of(it.value)
-        if it.arcs == GLOBAL_TIME:
-            await self.set_time(at, value)
-        elif not all([await self.street.input(request) for request in self.requests(it.arcs, value)]):
+        if report.is_of_report(it.arcs):
+            report.put(self.front, it.arcs, it.value)
+        elif it.arcs == GLOBAL_TIME:
+            await self.set_time(at, number_in(it.value))
+        elif not all([await self.street.input(each) for each in self.requests(it.arcs, number_in(it.value))]):
             raise Fault(GEN_ERR, at)
 
     async def set_time(self, at: int, seconds: int) -> None:
@@ -289,18 +283,14 @@ def absent(name: Arcs) -> Field:
     return Field(NO_SUCH_INSTANCE if has_type(name, TYPES) else NO_SUCH_OBJECT, b"")
 
 
-def value_of(value: Field) -> int:
-    """Returns the number that an INTEGER, a Counter or a Gauge is."""
-    return number_of(value.content) if value.tag == INTEGER else unsigned_of(value.content)
-
-
 class Fronts:
     """The fronts of a street's cabinets; a new session of the street has new ones."""
 
     def __init__(self, street: Street) -> None:
         self.street = street
         street.shown = Shown(street)
-        street.hearers.append(street.shown)
+        self.watch = Watch()
+        street.hearers += [street.shown, self.watch]
         self.sessions = -1
         self.cabinets: list[Cabinet] = []
 
@@ -312,4 +302,5 @@ class Fronts:
             count = len(self.street.scenario["cabinets"])
             before: list[Cabinet | None] = [*self.cabinets] or [None] * count
             self.cabinets = [Cabinet(self.street, number, it, is_carried) for number, it in enumerate(before, 1)]
+            self.watch.fronts = [it.front for it in self.cabinets]
         return await self.cabinets[cabinet - 1].answer(octets, manager)

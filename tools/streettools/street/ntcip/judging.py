@@ -4,14 +4,25 @@ The cells of tables are those of `streettools.shared.cells`, the one table that 
 """
 
 import functools
+from typing import NamedTuple
 
 from ...shared import oids
-from ...shared.ber import INTEGER, OCTETS, Arcs, Field, number_of
+from ...shared.ber import COUNTER, GAUGE, INTEGER, NAME, OCTETS, Arcs, Field, number_of, unsigned_of
 from ...shared.cells import Lists, Numbers, kinds
 from ...shared.oids import ENTRIES, OWN, SEQUENCE_ENTRY, STATUS_GROUP, UNIT, object_of
 from .pdus import INCONSISTENT_VALUE, NO_CREATION, NOT_WRITABLE, WRONG_LENGTH, WRONG_TYPE, WRONG_VALUE
 
-Kind = Numbers | Lists
+
+class Names(NamedTuple):
+    """Object identifiers."""
+
+
+class Seconds(NamedTuple):
+    """Seconds since 1970 of 32 bits: a Counter, which net-snmp sends as a Gauge, or an INTEGER."""
+
+
+Kind = Numbers | Lists | Names | Seconds
+WHOLE_TIME = (INTEGER, COUNTER, GAUGE)
 NUMBER = Numbers(1, (1 << 31) - 1)
 EIGHT = 8
 """The octets of a priority request."""
@@ -65,13 +76,20 @@ def is_of_a_download(names: list[Arcs]) -> bool:
 
 def misfit(kind: Kind, value: Field) -> int:
     """Returns the status of a value that an object doesn't take, 0 for one that it takes."""
-    if isinstance(kind, Numbers):
-        if value.tag != INTEGER:
-            return WRONG_TYPE
-        return 0 if kind.least <= number_of(value.content) <= kind.most else WRONG_VALUE
-    if value.tag != OCTETS:
-        return WRONG_TYPE
-    return 0 if len(value.content) <= kind.longest else WRONG_LENGTH
+    match kind:
+        case Numbers(least, most):
+            return WRONG_TYPE if value.tag != INTEGER else 0 if least <= number_in(value) <= most else WRONG_VALUE
+        case Lists(longest):
+            return WRONG_TYPE if value.tag != OCTETS else 0 if len(value.content) <= longest else WRONG_LENGTH
+        case Names():
+            return 0 if value.tag == NAME else WRONG_TYPE
+        case Seconds():
+            return WRONG_TYPE if value.tag not in WHOLE_TIME else 0 if number_in(value) >= 0 else WRONG_VALUE
+
+
+def number_in(value: Field) -> int:
+    """Returns the number that an INTEGER, a Counter or a Gauge is."""
+    return number_of(value.content) if value.tag == INTEGER else unsigned_of(value.content)
 
 
 @functools.cache

@@ -5,7 +5,7 @@ and NTCIP 1202. If that is in doubt, docs/CLIENTS.md says so.
 """
 
 from ...shared.ber import COUNTER, NAME, TIME_TICKS, Arcs, Field, name_content
-from ...shared.cells import PATTERNS, PREEMPTS, RINGS, SEQUENCES, SPLITS
+from ...shared.cells import BYTE, PATTERNS, PREEMPTS, RINGS, SEQUENCES, SPLITS, Numbers
 from ...shared.oids import (
     ASC, CLOCK, CONTROL, COUNTER_OF_CYCLE, DETECTOR_GROUP, GLOBAL, GLOBAL_TIME, MODE, OWN, PED_CALL, PHASE_CONTROL,
     PREEMPT_CONTROL, PREEMPT_STATE, STATUS, SYSTEM, TRANSACTION, VEH_CALL, VERIFY_ERROR,
@@ -14,10 +14,12 @@ from ...shared.oids import (
 from ...shared.tables import ALL
 from ...shared.version import VERSION
 from ..acts import SHORT, SHORT_ALSO, UNIT_1, UNIT_2, bits
-from .judging import columns
+from .instances import Objects, fixed
+from .judging import Kind, Seconds, columns
 from .operation import operation
 from .pdus import text, whole
 from .reads import Front, Read, by_stage, constant, kept
+from .report import log_rows, report, settable
 from .timebase import timebase
 from .vehicles import vehicles
 
@@ -183,11 +185,13 @@ def preempts() -> dict[Arcs, Read]:
     return made
 
 
-OBJECTS: dict[Arcs, Read] = {**scalars(), **modules(), **calls(), **preempts(), **operation(), **vehicles(),
-                            **timebase()}  # fmt: skip
-ORDER = sorted(OBJECTS)
-WRITABLE: set[Arcs] = {GLOBAL_TIME, TRANSACTION}
-WRITABLE |= {column + (group,) for column in (VEH_CALL, PED_CALL) for group in (1, 2)}
-WRITABLE |= {PREEMPT_STATE + (n,) for n in range(1, 9)}
-TYPES = columns() | {name[:-1] for name in OBJECTS}
+OBJECTS = Objects(
+    fixed({**scalars(), **modules(), **calls(), **preempts(), **operation(), **vehicles(), **timebase(), **report()})
+    | log_rows()
+)
+WRITABLE: dict[Arcs, Kind] = {GLOBAL_TIME: Seconds(), TRANSACTION: BYTE, **settable()}
+"""What each object takes that can be set."""
+WRITABLE |= {column + (group,): BYTE for column in (VEH_CALL, PED_CALL) for group in (1, 2)}
+WRITABLE |= {PREEMPT_STATE + (n,): Numbers(0, 1) for n in range(1, 9)}
+TYPES = columns() | set(OBJECTS.types)
 """The object types that can be read, of the cabinet and of the front."""

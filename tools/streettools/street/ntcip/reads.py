@@ -4,6 +4,7 @@ from collections.abc import Awaitable, Callable
 
 from ...shared.ber import Arcs, Field
 from ..street import Street
+from .eventlog import EventLog
 from .managers import Managers
 from .side import Side
 from .transaction import Transaction
@@ -12,8 +13,8 @@ from .transaction import Transaction
 class Front:
     """What the front keeps of a cabinet."""
 
-    def __init__(self, street: Street, cabinet: int, managers: Managers) -> None:
-        self.street, self.cabinet = street, cabinet
+    def __init__(self, street: Street, cabinet: int, managers: Managers, log: EventLog) -> None:
+        self.street, self.cabinet, self.log = street, cabinet, log
         self.side = Side(street, cabinet)
         self.transaction = Transaction(self.side, street.downloads, managers)
         self.people = [0, 0]
