@@ -159,7 +159,8 @@ def test_a_change_of_the_pattern_is_logged(tool):
 @pytest.mark.parametrize("words, refusal", [
     ((f"{CONFIG}.2.1", "i", 9), "wrongValue"), ((f"{CONFIG}.2.1", "i", 0), "wrongValue"),
     ((f"{CONFIG}.3.1", "i", 1), "wrongValue"), ((f"{CONFIG}.8.1", "i", 1), "wrongValue"),
-    ((f"{CONFIG}.6.1", "i", 1), "wrongType"), ((f"{CONFIG}.4.1", "s", "x"), "wrongType"),
+    ((f"{CONFIG}.6.1", "o", "1.3" + ".4294967295" * 7), "wrongLength"), ((f"{CONFIG}.6.1", "i", 1), "wrongType"),
+    ((f"{CONFIG}.4.1", "s", "x"), "wrongType"),
     ((f"{CONFIG}.9.1", "i", 2), "notWritable"), ((f"{CONFIG}.2.33", "i", 1), "notWritable"),
     ((f"{REPORT}.1.0", "i", 1), "notWritable"), ((f"{CLASS}.2.1", "i", 256), "wrongValue"),
     ((f"{CLASS}.3.1", "i", -1), "wrongValue"), ((f"{CLASS}.4.1", "s", "x" * 256), "wrongLength"),

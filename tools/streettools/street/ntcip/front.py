@@ -52,7 +52,7 @@ class Cabinet:
         if not is_carried:
             self.managers.begins_anew()
             self.copies.begins_anew((GEN_ERR, 1))
-        self.front = Front(street, cabinet, self.managers, before.front.log if before else EventLog())
+        self.front: Front = Front(street, cabinet, self.managers, before.front.log if before else EventLog())
         self.transaction = self.front.transaction
         self.order = asyncio.Lock()
         self.in_order = InOrder()

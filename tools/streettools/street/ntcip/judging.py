@@ -14,7 +14,10 @@ from .pdus import INCONSISTENT_VALUE, NO_CREATION, NOT_WRITABLE, WRONG_LENGTH, W
 
 
 class Names(NamedTuple):
-    """Object identifiers."""
+    """Object identifiers, by the octets of the longest: 32 of them have room in a message. Those of all objects are
+    shorter."""
+
+    longest: int = 32
 
 
 class Seconds(NamedTuple):
@@ -81,8 +84,8 @@ def misfit(kind: Kind, value: Field) -> int:
             return WRONG_TYPE if value.tag != INTEGER else 0 if least <= number_in(value) <= most else WRONG_VALUE
         case Lists(longest):
             return WRONG_TYPE if value.tag != OCTETS else 0 if len(value.content) <= longest else WRONG_LENGTH
-        case Names():
-            return 0 if value.tag == NAME else WRONG_TYPE
+        case Names(longest):
+            return WRONG_TYPE if value.tag != NAME else 0 if len(value.content) <= longest else WRONG_LENGTH
         case Seconds():
             return WRONG_TYPE if value.tag not in WHOLE_TIME else 0 if number_in(value) >= 0 else WRONG_VALUE
 
