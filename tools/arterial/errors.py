@@ -36,7 +36,7 @@ def rebuilt(kind: type[Error], args: tuple[Any, ...], members: dict[str, Any]) -
 
 
 class Refused(Error):
-    """A scenario, a plan, a message or an argument isn't accepted.
+    """Raised if a scenario, a plan, a message or an argument isn't accepted.
 
     - `line` is the program's own line, empty if this package refused it before the program was asked;
     - `path` is the path of the value in the scenario, as `cabinets[0].clock`; None if it isn't a matter of one value;
