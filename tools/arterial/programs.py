@@ -51,8 +51,8 @@ def program(name: str | os.PathLike[str] | None = None) -> Program:
 
     The function looks, in this order, for: `name`; the environment variable `ARTERIAL_PROGRAM`; the program inside an
     installed package; the program that was proved in this checkout; the unproved program that the launcher built in
-    this checkout; the model in plain Python of the checkout, which is slow; `arterial` on the path. If there is no
-    program, `NoProgram` is raised.
+    this checkout; the model in plain Python of the checkout, which is slow; `arterial` on the path. If no program is
+    found, `NoProgram` is raised.
 
     >>> import arterial
     >>> arterial.program("/nowhere")
