@@ -6,21 +6,6 @@ import re
 import pytest
 from pages import TOP
 
-ADMITTED: dict[str, set[str]] = {
-    "cab_book": {
-        *("ber_code", "oid_map", "plan_facts", "tick_laws", "pattern_plan", "call_store", "phase_clock", "ped_clock"),
-        *("ring_barrier", "coord_gate", "coord_count", "preempt_run", "flash_mode", "prio_queue", "look_back", "hex"),
-    },
-    "controller": {"flash_mode", "pattern_plan", "prio_queue", "ring_barrier"},
-    "engine": {"pattern_plan"},
-    "judge": {"rule_book", "rule_facts", "tick_laws", "trace_text"},
-    "judge_session": {"itoa"},
-    "observer": {"circular_buffer", "coord_gate", "flash_mode", "pattern_plan", "prio_queue", "ring_barrier"},
-    "timing_cases": {"engine", "ring_barrier", "tick_context"},
-}
-"""Words that may remain although no file names them, for each crate. The kit needs none of them, as far as is known:
-remove them with the next change of these crates."""
-
 
 @functools.cache
 def lines() -> dict[str, list[str]]:
@@ -45,4 +30,4 @@ def sources(crate: str) -> str:
 def test_each_word_of_a_line_is_used(crate):
     text = sources(crate)
     unused = [it for it in lines()[crate] if not re.search(rf"\b{it}(::|\.)|\buse {it}\b", text)]
-    assert set(unused) <= ADMITTED.get(crate, set())
+    assert unused == []
