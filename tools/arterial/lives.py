@@ -403,7 +403,7 @@ def live(
 
     - `scenario`: as for `arterial.run`; its inputs, downloads and messages take effect in their rounds;
     - `rounds`: the maximum number of rounds of the session (default: the rounds of the scenario);
-    - `program`: the program in place of the one that `arterial.program()` finds;
+    - `program`: the program to run (default: the program that `arterial.program()` finds);
     - `seconds`: the time limit for each answer of the program; after it, `Late` is raised.
 
     >>> import arterial

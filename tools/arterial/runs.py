@@ -32,7 +32,7 @@ def run(
       a timing sheet (.toml, .xlsx);
     - `workers`: 0 processes the items of a round in their order; 1 to 8 is a number of threads that process the items
       in any order. The trace shows that order;
-    - `program`: the program in place of the one that `arterial.program()` finds;
+    - `program`: the program to run (default: the program that `arterial.program()` finds);
     - `seconds`: the time limit in seconds (default: no limit).
 
     Raises `Refused` with the reason if the scenario isn't accepted, `Late` if the program takes too long, and
