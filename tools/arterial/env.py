@@ -74,9 +74,9 @@ def weights_of(reward: "Reward") -> "Mapping[str, float] | Callable[[dict[str, f
 
 
 class StreetEnv(spaces.Env):
-    """A street under traffic: vehicles wait in queues (docs/QUEUES.md), or SUMO drives them (docs/COSIM.md).
+    """A street with traffic: vehicles of the model of queues (docs/QUEUES.md), or of SUMO (docs/COSIM.md).
 
-    - `scenario`: the cabinets, as for `arterial.run`; its own inputs of detectors and buttons are left out;
+    - `scenario`: the cabinets, as for `arterial.run`; its own inputs of detectors and buttons are ignored;
     - `volumes`: the traffic: the path of a file of volumes (docs/QUEUES.md), or its content as a dict;
     - `sumo`: in place of volumes, the path of a configuration of SUMO (.sumocfg) and that of the street's map. A
       process has one SUMO at a time. Vehicles slower than 0.1 m/s on the last lane before a stop line wait, which is
@@ -88,7 +88,7 @@ class StreetEnv(spaces.Env):
       during the step. It calls the phase, and holds its green as a vehicle would; vehicles themselves are not detected;
     - `patterns`: the patterns that may be commanded (default: 0, free operation, and all that every cabinet defines);
     - `reward`: `delay` is minus the vehicle-seconds waited in the step, `stops` minus the vehicles that began to wait;
-      a dict weighs both, and a function takes `info` and returns the reward;
+      a dict has a weight for each of the two; a function takes `info` and returns the reward;
     - `program`: as for `arterial.run`; `keep_trace`: whether `env.trace` has the trace of an episode that has ended.
 
     An observation is an array of shape (cabinets, 3, 16), whose last place is the phase, from 0: in row 0 the vehicles
@@ -188,8 +188,8 @@ class StreetEnv(spaces.Env):
     def reset(
         self, *, seed: int | None = None, options: Mapping[str, Any] | None = None
     ) -> "tuple[Observation, dict[str, float]]":
-        """Begins an episode; returns its first observation and info. Without a seed the traffic is another one each
-        time, by the seed before."""
+        """Begins an episode; returns its first observation and info. Without a seed, each episode has different
+        traffic, which follows from the previous seed."""
         if seed is not None and (type(seed) is not int or seed < 0):
             raise Refused("", (f"seed: expected a whole number from 0 on, found {seed!r}",))
         self._end()

@@ -21,7 +21,7 @@ LINE = re.compile(
 
 
 class Error(Fault):
-    """What every exception of this package is, so that `except arterial.Error` catches all of them."""
+    """The base class of every exception of this package: `except arterial.Error` catches all of them."""
 
     def __reduce__(self) -> tuple[Any, ...]:
         """Lets the exception go from process to process with all that it has."""
@@ -36,12 +36,12 @@ def rebuilt(kind: type[Error], args: tuple[Any, ...], members: dict[str, Any]) -
 
 
 class Refused(Error):
-    """A scenario, a plan, a message or an argument isn't accepted.
+    """Raised if a scenario, a plan, a message or an argument isn't accepted.
 
-    - `line` is the program's own line, empty if this package refused it before the program was asked;
-    - `path` is the path of the value in the scenario, as `cabinets[0].clock`; None if it isn't a matter of one value;
-    - `cabinet`, `rule` and `row` are those of a broken rule of tables (docs/SCENARIO.md), else None;
-    - `words` are the sentences that say what was expected, and what was found.
+    - `line` is the program's own line; it is empty if this package refused the value before it called the program;
+    - `path` is the path of the value in the scenario, as `cabinets[0].clock`; None if the reason isn't a single value;
+    - `cabinet`, `rule` and `row` name a broken rule of tables (docs/SCENARIO.md); None if no rule is broken;
+    - `words` are sentences with the expected and the actual value.
     """
 
     def __init__(self, line: str, words: tuple[str, ...] = (), path: str | None = None) -> None:
@@ -55,11 +55,11 @@ class Refused(Error):
 
 
 class NoProgram(Error):
-    """No program was found that can be run here."""
+    """Raised if no program is found that can be run here."""
 
 
 class ProgramDied(Error):
-    """The program ended before it had done what was asked; `program_status` is its exit status, negative for a
+    """Raised if the program ended before its task was done. `program_status` is its exit status; it is negative for a
     signal."""
 
     def __init__(self, words: str, program_status: int) -> None:
@@ -68,19 +68,20 @@ class ProgramDied(Error):
 
 
 class Late(Error):
-    """The program wasn't done in the given time, and was ended."""
+    """Raised if the program took longer than the given time. The package has ended it."""
 
 
 class Over(Error):
-    """The session has ended, so that nothing more can be asked of it."""
+    """Raised if a session has ended, so it accepts no more requests."""
 
 
 class Busy(Error):
-    """Two threads used one session at the same time. A session belongs to one thread at a time."""
+    """Raised if two threads use one session at the same time. Only one thread at a time may use a session."""
 
 
 class NotATrace(Error):
-    """A text isn't a trace; `line` is the number of the first line that isn't one of a trace, from 1."""
+    """Raised if a text isn't a trace. `line` is the number of the first line, from 1, that can't be a line of a
+    trace."""
 
     def __init__(self, words: str, line: int) -> None:
         super().__init__(words)
@@ -88,11 +89,11 @@ class NotATrace(Error):
 
 
 class NoCabinet(Error):
-    """A cabinet was asked for that isn't there."""
+    """Raised if a cabinet doesn't exist."""
 
 
 class Missing(Error):
-    """A Python package is missing; the words name Debian's package of it."""
+    """Raised if a Python package is missing. The message names the Debian package."""
 
 
 def from_own(fault: BaseException) -> BaseException:

@@ -21,7 +21,7 @@ class HasValue(Protocol):
     """What can say its scenario: `Scenario` and `Plan`."""
 
     def value(self) -> dict[str, Any]:
-        """Returns the scenario as JSON has it."""
+        """Returns the scenario as a dict with the names of its JSON."""
 
 
 if TYPE_CHECKING:

@@ -26,10 +26,10 @@ def judge(trace: "Trace | str | bytes | os.PathLike[str]") -> Judgement:
     """Returns where a trace breaks a promise: conflicting phases together, a wrong clearance time, tables that aren't a
     whole download, a local zero without its greens, an offset that isn't met in time (docs/GUARANTEES.md).
 
-    The independent model in plain Python judges (`model/promises`); it isn't proved. It reads the lines and the tables
-    of the trace, and knows no rule of a tick. So it also judges a trace that `check` doesn't accept. `trace` is a
-    `Trace`, the text of one, or the path of a file. Raises `Missing` if the model isn't there: a wheel doesn't carry
-    it.
+    The independent model in plain Python (`model/promises`) finds these places; it isn't proved. It reads the lines and
+    the tables of the trace, and uses no rule of a tick, so it can also read a trace that `check` doesn't accept.
+    `trace` is a `Trace`, the text of one, or the path of a file. Raises `Missing` if the model isn't installed: a wheel
+    doesn't contain it.
 
     >>> import arterial
     >>> trace = arterial.run({"version": 1, "rounds": 1, "ticks": 60, "cabinets": [{"base": "max8"}]})

@@ -42,13 +42,13 @@ WORD = 65_535
 
 
 class Step(NamedTuple):
-    """What ticks brought.
+    """The result of ticks.
 
     - `time_s`: the time after them, in seconds since the start of the session;
-    - `frames`: what cabinets show from now on, in order: a cabinet without one shows what it showed before;
-    - `notes`: what the master noted;
+    - `frames`: the changed displays, in order; a cabinet without a frame shows the same as before;
+    - `notes`: the notes of the master;
     - `downloads`: the downloads of the scenario that ended;
-    - `is_over`: whether the session has had its last round.
+    - `is_over`: whether the last round of the session has ended.
     """
 
     time_s: float
@@ -59,8 +59,8 @@ class Step(NamedTuple):
 
 
 class Outcome(NamedTuple):
-    """The end of a download: whether it was accepted, the version that it made; or the rule and the row that it would
-    break (docs/SCENARIO.md), with the rule in words."""
+    """The end of a download. If it was accepted, `version` is the new version of the tables. Otherwise `rule` and `row`
+    name the rule that it would break (docs/SCENARIO.md), and `words` explains this rule."""
 
     accepted: bool
     version: int | None = None
@@ -72,9 +72,9 @@ class Outcome(NamedTuple):
 class Street:
     """A live session, for one thread at a time: see `arterial.live`.
 
-    A request that isn't accepted raises `Refused`, changes nothing, and the session continues. A program that dies or
-    is late raises `ProgramDied` or `Late`, and the session has ended. Leaving the `with` block ends the program in any
-    case; after that `trace` is the record, and every other request raises `Over`.
+    A request that isn't accepted raises `Refused` and changes nothing; the session continues. If the program ends early
+    or takes too long, `ProgramDied` or `Late` is raised, and the session has ended. Leaving the `with` block always
+    ends the program. After that `trace` is the record, and every other request raises `Over`.
     """
 
     def __init__(self, scenario: dict[str, Any], path: str | os.PathLike[str], seconds: float) -> None:
@@ -175,7 +175,7 @@ class Street:
         return int(self.scenario["rounds"] * self.scenario["ticks"]) - self.ticks
 
     def tick(self, count: int = 1) -> Step:
-        """Takes ticks of 0.1 s at all cabinets, and returns what they brought."""
+        """Runs ticks of 0.1 s at all cabinets, and returns their result."""
         if type(count) is not int or count < 1:
             raise Refused("", (f"count: expected a whole number of ticks from 1 on, found {count!r}",))
         if not self.is_over and count > self.left:
@@ -196,7 +196,8 @@ class Street:
             self._session.running.closed().done()
 
     def end(self) -> None:
-        """Ends the session with the end of its round, and the program. A session that has ended stays as it is."""
+        """Ends the session after the current round, and ends the program. If the session has already ended, nothing
+        changes."""
         if self.is_over:
             return
         self._claim()
@@ -214,7 +215,7 @@ class Street:
 
     @functools.cached_property
     def trace(self) -> Trace:
-        """The record of a session that has ended, as a trace that `arterial.check` accepts: of its whole rounds."""
+        """The record of a session that has ended: a trace of its completed rounds, which `arterial.check` accepts."""
         if not self.is_over:
             raise Error("the session hasn't ended: its record is complete after end(), or after the with block")
         if self._record.number < 1:
@@ -257,10 +258,10 @@ class Street:
         return self._number
 
     def get(self, cabinet: int, *names: str) -> Any:
-        """Returns the value of an object of a cabinet, or a list of those of several: numbers, or octets.
+        """Returns the value of an object of a cabinet, or a list of the values of several objects: numbers, or octets.
 
-        A name is that of the MIB with its instance, as `phaseMinimumGreen.2` (`.0` may be left out), or numbers. A Get
-        changes nothing.
+        A name is the object's name in the MIB with its instance, as `phaseMinimumGreen.2` (`.0` may be left out), or
+        numbers. A Get changes nothing.
         """
         if not names:
             raise Refused("", ("expected the name of an object",))
@@ -271,7 +272,8 @@ class Street:
         return found[0] if len(names) == 1 else found
 
     def set(self, cabinet: int, name: str, value: Value) -> None:
-        """Sets an object of a cabinet: a number, or octets. `Refused` says which error it answers."""
+        """Sets an object of a cabinet to a number or to octets. If the cabinet answers an error, `Refused` is raised
+        and names the error."""
         if not isinstance(value, (int, bytes)) or isinstance(value, bool):
             raise Refused("", (f"value: expected a whole number or bytes, found {value!r}",))
         self._set(cabinet, [name], [(objects.arcs_of(name), value)], "priority")
@@ -288,7 +290,7 @@ class Street:
         return load
 
     def command(self, cabinet: int, pattern: int) -> None:
-        """Commands a pattern: the number of a defined one, 255 for flash, any other for free operation."""
+        """Commands a pattern: the number of a defined pattern, 255 for flash; any other number is free operation."""
         arcs = [(oids.CONTROL, whole(pattern, 255, "pattern", 0))]
         self._set(cabinet, ["systemPatternControl.0"], arcs, "priority")
 
@@ -311,8 +313,8 @@ class Street:
         self._set(cabinet, ["priorityCancel.0"], arcs, "priority")
 
     def load(self, cabinet: int, cells: Sequence[Sequence[Any]]) -> Outcome:
-        """Brings a download of cells (docs/SCENARIO.md, "Cells") to a cabinet: all of it is in force with the next
-        tick, or nothing of it. A download that would break a rule is an outcome, not an exception."""
+        """Loads cells (docs/SCENARIO.md, "Cells") into a cabinet by a download. From the next tick on either all cells
+        are in force, or none. If the download would break a rule, the result reports this; no exception is raised."""
         bindings = [binding(cell) for cell in cells]
         if not 1 <= len(bindings) <= 768:
             raise Refused("", (f"cells: expected 1 to 768 cells, found {len(bindings)}",))
@@ -399,10 +401,10 @@ def live(
 ) -> Street:  # fmt: skip
     """Opens a live session of a scenario's cabinets.
 
-    - `scenario`: as for `arterial.run`; what it holds for its rounds happens;
-    - `rounds`: the most rounds that the session may have (default: those of the scenario);
-    - `program`: the program in place of the one that `arterial.program()` finds;
-    - `seconds`: for how long the program may owe an answer before `Late` is raised.
+    - `scenario`: as for `arterial.run`; its inputs, downloads and messages take effect in their rounds;
+    - `rounds`: the maximum number of rounds of the session (default: the rounds of the scenario);
+    - `program`: the program to run (default: the program that `arterial.program()` finds);
+    - `seconds`: the time limit for each answer of the program; after it, `Late` is raised.
 
     >>> import arterial
     >>> one = {"version": 1, "rounds": 60, "ticks": 10, "cabinets": [{}]}
@@ -422,7 +424,7 @@ def live(
 
 
 class AsyncStreet:
-    """A live session for asyncio: the requests of `Street`, awaited one after another. See `arterial.live_async`."""
+    """A live session for asyncio: it has the requests of `Street`, as coroutines. See `arterial.live_async`."""
 
     def __init__(self, make: Callable[[], Street]) -> None:
         self._make, self._order = make, asyncio.Lock()
@@ -459,7 +461,7 @@ class AsyncStreet:
         return self.street.trace
 
     def tick(self, count: int = 1) -> Awaitable[Step]:
-        """Takes ticks: as `Street.tick`."""
+        """Runs ticks, as `Street.tick`."""
         return self._do(self.street.tick, count)
 
     def vehicle(self, cabinet: int, phase: int, on: bool = True) -> Awaitable[None]:

@@ -19,7 +19,7 @@ MOST = 3600.0
 
 
 class Picture:
-    """A picture as SVG: `svg` is its text. A notebook shows it; `save(path)` writes it."""
+    """A picture as SVG: `svg` is its text. A notebook shows the picture; `save(path)` writes it to a file."""
 
     def __init__(self, svg: str) -> None:
         self.svg = svg

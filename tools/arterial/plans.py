@@ -26,9 +26,9 @@ Path = str | os.PathLike[str]
 
 
 class Finding(NamedTuple):
-    """What a check finds: `level` is error (the program refuses the plan), warning or note; `where` is the
-    intersection or the name in words; `words` say what is wrong; `rule` is the number of the broken rule of tables,
-    None if there is none."""
+    """What a check finds: `level` is error (the program refuses the plan), warning or note; `where` names the
+    intersection or the value; `words` states what is wrong; `rule` is the number of the broken rule of tables, None if
+    there is none."""
 
     level: str
     where: str
@@ -80,8 +80,8 @@ class Plan:
     @classmethod
     def read(cls, path: Path, names: Path | None = None) -> "Plan":
         """Returns the plan of a file. `names` is the file with the names of a scenario (default: `street.names.json`
-        next to `street.json`). A file whose names or values are wrong is still a plan: `check` lists all that is
-        wrong, and everything else refuses it."""
+        next to `street.json`). A file with wrong names or values can also be read: `check` lists all its faults, and
+        all other methods raise `Refused`."""
         from streettools.plan import sources
 
         with own():
@@ -127,7 +127,7 @@ class Plan:
 
     @property
     def street(self) -> "Street":
-        """The street of the plan; `Refused` with all faults if its names or values are wrong."""
+        """The street of the plan. Raises `Refused` with all faults if its names or values are wrong."""
         source = self._source
         if source.street is None or source.errors:
             first = next((it.line for it in source.errors if it.line), "")
@@ -135,7 +135,7 @@ class Plan:
         return source.street
 
     def value(self) -> dict[str, Any]:
-        """Returns the scenario of the plan, as JSON has it."""
+        """Returns the scenario of the plan, as a dict with the names of its JSON."""
         found: dict[str, Any] = json.loads(json.dumps(self.street.scenario))
         return found
 
@@ -146,14 +146,14 @@ class Plan:
 
     @property
     def notes(self) -> list[str]:
-        """What was entered for the plan, or couldn't be imported, in words."""
+        """Notes in words: values that the import added, and values that it couldn't import."""
         return list(self.street.notes)
 
     # checks
 
     def check(self, program: Path | None = None) -> list[Finding]:
-        """Returns all that is wrong with the plan: what the program would refuse first, then warnings, then notes. The
-        program is asked for bands only; if none is found a note says so."""
+        """Returns all that is wrong with the plan: first the errors, which the program would refuse, then warnings,
+        then notes. The program itself is only used to compute bands; if no program is found, a note reports it."""
         from streettools.plan import check
 
         path: str | None = None
@@ -164,7 +164,7 @@ class Plan:
         return [Finding(it.level.value, it.where, it.words, it.rule) for it in found]
 
     def is_accepted(self, program: Path | None = None) -> bool:
-        """Tells whether the plan has no error."""
+        """Returns whether the plan has no error."""
         return all(it.level != "error" for it in self.check(program))
 
     # other forms

@@ -26,7 +26,7 @@ class Program(NamedTuple):
 
     - `path`: where it is;
     - `is_proved`: whether the record of a proof names exactly this program, by its checksum;
-    - `words`: where it was found, and why it is known to be proved or isn't.
+    - `words`: where it was found, and why it is regarded as proved or as not proved.
     """
 
     path: pathlib.Path
@@ -43,15 +43,16 @@ class Program(NamedTuple):
 
 
 class Unproved(UserWarning):
-    """A program that isn't known to be proved answers, since none that is was found."""
+    """Warns that no proved program was found, so an unproved program answers."""
 
 
 def program(name: str | os.PathLike[str] | None = None) -> Program:
     """Returns the program that this package runs.
 
-    Looked for, in this order: `name`; the environment variable `ARTERIAL_PROGRAM`; the program inside an installed
-    package; the program that was proved in this checkout; the unproved one that the launcher built there; the model in
-    plain Python of the checkout, which is slow; `arterial` on the path. `NoProgram` is raised if there is none.
+    The function looks, in this order, for: `name`; the environment variable `ARTERIAL_PROGRAM`; the program inside an
+    installed package; the program that was proved in this checkout; the unproved program that the launcher built in
+    this checkout; the model in plain Python of the checkout, which is slow; `arterial` on the path. If no program is
+    found, `NoProgram` is raised.
 
     >>> import arterial
     >>> arterial.program("/nowhere")

@@ -30,13 +30,13 @@ def run(
 
     - `scenario`: a dict, an `arterial.Scenario` or `arterial.Plan`, JSON text, or the path of a scenario (.json) or of
       a timing sheet (.toml, .xlsx);
-    - `workers`: 0 processes the items of a round in their order; 1 to 8 do so in that many threads, in an order that
-      they settle among themselves, and the trace shows that order;
-    - `program`: the program in place of the one that `arterial.program()` finds;
-    - `seconds`: the time limit, in seconds of the clock; by default there is none.
+    - `workers`: 0 processes the items of a round in their order; 1 to 8 is a number of threads that process the items
+      in any order. The trace shows that order;
+    - `program`: the program to run (default: the program that `arterial.program()` finds);
+    - `seconds`: the time limit in seconds (default: no limit).
 
-    `Refused` says why a scenario isn't accepted, `Late` and `ProgramDied` what happened to the program. A process that
-    was started has ended in any case.
+    Raises `Refused` with the reason if the scenario isn't accepted, `Late` if the program takes too long, and
+    `ProgramDied` if it ends early. In each case no process remains.
 
     >>> import arterial
     >>> trace = arterial.run({"version": 1, "rounds": 60, "ticks": 10, "cabinets": [{"base": "max8"}]})
@@ -82,7 +82,7 @@ class Verdict(NamedTuple):
     - `is_trace`: whether the program accepts it;
     - `line`: the number of the first line that isn't accepted, from 1; None if it is a trace;
     - `rule`: the number of the rule that this line breaks; None if it is a trace;
-    - `words`: what the rule says.
+    - `words`: the rule in words.
     """
 
     is_trace: bool
@@ -100,7 +100,7 @@ def check(
     program: str | os.PathLike[str] | None = None,
     seconds: float | None = None,
 ) -> Verdict:
-    """Returns whether a text is a trace: one that a run of its scenario could have written (docs/TRACE.md).
+    """Returns whether a text is a trace, which means that a run of its scenario could have written it (docs/TRACE.md).
 
     `trace` is a `Trace`, the text of one, or the path of a file. A text begins with `S `; any other `str` is a path.
 

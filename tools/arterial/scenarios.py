@@ -54,8 +54,8 @@ class Entry:
 
 @dataclass
 class Master:
-    """What the master does: its clock, the rounds after which it polls, sets clocks and repeats patterns, its
-    attempts, its schedule."""
+    """The master: its clock, the number of rounds between its polls, between its settings of clocks and between its
+    repeated patterns, its attempts, and its schedule."""
 
     clock: int | None = None
     poll_every: int | None = None
@@ -152,10 +152,10 @@ class LinkFault:
 
 @dataclass
 class Scenario:
-    """A scenario: what `arterial.run` and `arterial.live` take (docs/SCENARIO.md).
+    """A scenario for `arterial.run` and `arterial.live` (docs/SCENARIO.md).
 
-    `faults_of_link` is the name `faults` of JSON. The program judges a scenario; `faults()` lists what is wrong with
-    names, kinds and ranges without it.
+    `faults_of_link` is the name `faults` of JSON. The program decides whether a scenario is valid. `faults()` doesn't
+    need the program: it lists what is wrong with names, kinds and ranges.
 
     >>> import arterial
     >>> street = arterial.Scenario(rounds=60, cabinets=[arterial.Cabinet(base="max8")])
@@ -179,14 +179,14 @@ class Scenario:
     faults_of_link: list[LinkFault] | None = None
 
     def value(self) -> dict[str, Any]:
-        """Returns the scenario as JSON has it."""
+        """Returns the scenario as a dict with the names of its JSON."""
         found: dict[str, Any] = written(self)
         faults = found.pop("faults_of_link", None)
         head = {name: found.pop(name) for name in ("version", "rounds", "ticks")}
         return head | found | ({} if faults is None else {"faults": faults})
 
     def json(self) -> str:
-        """Returns the text of the scenario in one line; `Refused` if it holds what JSON can't have."""
+        """Returns the text of the scenario in one line; raises `Refused` if a value can't be written as JSON."""
         from .given import of_value
 
         return of_value(self.value()).decode()
@@ -198,14 +198,14 @@ class Scenario:
         return pathlib.Path(path)
 
     def faults(self) -> list[str]:
-        """Returns what is wrong with names, kinds and ranges, each with its path; nothing if all is right. The rules of
-        tables are left to the program, and to `Plan.check`."""
+        """Returns what is wrong with names, kinds and ranges, each with its path; an empty list if nothing is wrong.
+        The rules of tables are checked only by the program and by `Plan.check`."""
         return [f"{it.path}: {it.words}" for it in scenario_faults(json.loads(self.json()))]
 
     @classmethod
     def of(cls, given: Any) -> "Scenario":
-        """Returns the scenario of a dict, of JSON text, of a file, or of a timing sheet; `Refused` with path and words
-        if it isn't one."""
+        """Returns the scenario of a dict, of JSON text, of a file, or of a timing sheet. Raises `Refused` with path and
+        words if this isn't a scenario."""
         from .given import value_of
 
         value = value_of(given)

@@ -58,9 +58,9 @@ class Walked:
 class Trace:
     """A trace: the text that a run or a session wrote, and its tables.
 
-    `Trace(text)` takes the text, `Trace.read(path)` a file. A text that isn't a trace is refused with `NotATrace`; that
-    its lines are the right ones is for `arterial.check` to say. A tick is 0.1 s; the tables have seconds since the
-    start of the run. Tables are pandas frames, made when they are first asked for.
+    `Trace(text)` takes the text, `Trace.read(path)` a file. A text that doesn't have the form of a trace raises
+    `NotATrace`; only `arterial.check` checks whether a run could have written its lines. A tick is 0.1 s; the tables
+    have seconds since the start of the run. Tables are pandas frames, which are made at their first use.
 
     >>> import arterial
     >>> trace = arterial.run({"version": 1, "rounds": 60, "ticks": 10, "cabinets": [{"base": "max8"}]})
@@ -89,7 +89,8 @@ class Trace:
         return cls(octets_of(path))
 
     def save(self, path: str | os.PathLike[str]) -> pathlib.Path:
-        """Writes the whole text of the trace to a file, whole or not at all, and returns its path."""
+        """Writes the text of the trace to a file, and returns its path. If the text can't be written completely, the
+        file is unchanged."""
         from streettools.shared import files
 
         with own(), files.whole(path) as name:
@@ -107,7 +108,7 @@ class Trace:
 
     @property
     def scenario(self) -> dict[str, Any]:
-        """The scenario that was run, as JSON has it."""
+        """The scenario of the run, as a dict with the names of its JSON."""
         import json
 
         found: dict[str, Any] = json.loads(self.text.split(b"\n", 1)[0][2:])
@@ -124,7 +125,7 @@ class Trace:
 
     def between(self, start_s: float = 0.0, end_s: float | None = None) -> "Trace":
         """Returns a view of the time from `start_s` to before `end_s`, in seconds since the start of the run. Greens
-        and splits that overlap this time are in it, uncut."""
+        and splits that overlap this time are included with their full length."""
         end = float("inf") if end_s is None else end_s
         if not all(isinstance(it, (int, float)) for it in (start_s, end)) or not 0 <= start_s < end:
             raise Refused("", (f"expected 0 <= start_s < end_s, found {start_s!r} and {end_s!r}",))
@@ -150,7 +151,7 @@ class Trace:
 
         Columns: `time_s`, `cabinet`, `vehicles` (16 letters: G green, Y yellow, C red clearance, R red), `pedestrians`
         (W walk, F flashing don't walk, D don't walk), `mode` (docs/TRACE.md), `counter_s` and `target_s` (the place in
-        the cycle, and the place that the offset asks for), `version` (accepted downloads).
+        the cycle, and the expected place according to the offset), `version` (accepted downloads).
 
         >>> import arterial
         >>> trace = arterial.run({"version": 1, "rounds": 7, "ticks": 10, "cabinets": [{"base": "max8"}]})
@@ -185,7 +186,7 @@ class Trace:
         """Returns how each service of a phase under a pattern used its split: green and clearance together.
 
         Columns: `cabinet`, `pattern`, `phase`, `start_s`, `green_s`, `yellow_s`, `red_clear_s`, `used_s` (their sum),
-        `split_s` (what the pattern's split gives the phase; missing if the tables aren't known) and `ending`.
+        `split_s` (the split of the phase in the pattern; missing if the tables aren't known) and `ending`.
         """
         rows = (
             (it.cabinet, it.pattern, it.phase, it.start / 10, (it.green_end - it.start) / 10,
@@ -274,7 +275,7 @@ class Trace:
         - `rings`: both rings of one cabinet, at most an hour (default: the first cabinet, 180 s);
         - `coordination`: the coordinated greens of all cabinets, at most an hour (default: 300 s). `travel_s` are the
           seconds from each cabinet to the next, which draw the progression bands;
-        - `offset`: how one cabinet came to its offset, over the whole view.
+        - `offset`: how one cabinet reached its offset, over the whole view.
         """
         from . import pictures
 

@@ -72,7 +72,7 @@ def add_device(words: argparse.ArgumentParser) -> None:
     """Adds the options about the device."""
     words.add_argument("--community", default="public", help="the community (default: public)")
     words.add_argument(
-        "--sheet", metavar="FILE", help="a timing sheet with what the device doesn't report of its tables"
+        "--sheet", metavar="FILE", help="a timing sheet with the tables that the device doesn't report"
     )
     words.add_argument(
         "--speed", type=speed, default=1.0, metavar="N",

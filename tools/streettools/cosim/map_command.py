@@ -47,12 +47,12 @@ def parser() -> argparse.ArgumentParser:
     """Returns the reader of the options."""
     words = Parser(
         "cosim map",
-        description="Writes a map from a network of SUMO: which link has which phase, detectors before stop lines.",
+        description="Writes the map of a SUMO network: the phase of each link, and the detectors before stop lines.",
         epilog=EXAMPLES,
     )
     words.add_argument("network", type=pathlib.Path, help="the network (*.net.xml), or a configuration that names it")
     add_output(words, "the map to write (default: standard output)", metavar="MAP")
-    words.add_argument("--main", choices=list(WAYS), help="the way in which phase 2 drives, at each signal")
+    words.add_argument("--main", choices=list(WAYS), help="the direction of travel of phase 2, at each signal")
     words.add_argument("--phase", type=answer, action="append", default=[], metavar="'SIGNAL MOVEMENT=N'",
                        help="the phase of a movement of a signal; may be repeated")  # fmt: skip
     words.add_argument("--yields", type=place, action="append", default=[], metavar="'SIGNAL MOVEMENT'",

@@ -41,12 +41,12 @@ def parser() -> argparse.ArgumentParser:
     """Returns the reader of the options."""
     words = Parser(
         "cosim run",
-        description="Runs SUMO under the cabinets of a scenario: its detectors, persons, buses and trains call them.",
+        description="Runs SUMO with the cabinets of a scenario as its signals. SUMO's traffic calls the phases.",
         epilog=EXAMPLES,
     )
     path: dict[str, Any] = {"type": pathlib.Path, "required": True}
     words.add_argument("--sumo", **path, metavar="CONFIG", help="SUMO's configuration (*.sumocfg)")
-    words.add_argument("--map", **path, metavar="MAP", help="the map: which link has which phase")
+    words.add_argument("--map", **path, metavar="MAP", help="the map: the phase of each link")
     words.add_argument("--scenario", **path, metavar="FILE", help="the cabinets: a scenario, or a timing sheet")
     add_output(words, "the folder for all results", **path, metavar="FOLDER")
     words.add_argument(
@@ -54,10 +54,11 @@ def parser() -> argparse.ArgumentParser:
     )
     of_day = number(0, 86_400)
     words.add_argument(
-        "--seconds", type=number(1, 86_400), metavar="S", help="the length (default: SUMO's, or else the scenario's)"
+        "--seconds", type=number(1, 86_400), metavar="S",
+        help="the length of the run (default: until SUMO's end; if it has none, the scenario's length)",
     )
     words.add_argument(
-        "--seed", type=number(0, 2**31 - 1), metavar="N", help="SUMO's seed (default: that of its configuration)"
+        "--seed", type=number(0, 2**31 - 1), metavar="N", help="SUMO's seed (default: the seed of the configuration)"
     )
     words.add_argument(
         "--warm", type=of_day, default=0, metavar="S", help="exclude trips that start earlier (default: 0)"

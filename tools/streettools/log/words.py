@@ -30,16 +30,17 @@ def add_reader(commands: "argparse._SubParsersAction[Parser]", name: str, text: 
     found.add_argument("--sheet", required=True, metavar="PLAN", help="the plan: a timing sheet, a workbook, a "
                        "scenario or a field file")  # fmt: skip
     found.add_argument("--names", metavar="FILE", help="names of cabinets and phases, if PLAN is a scenario (default: "
-                       "the file next to it)")  # fmt: skip
+                       "street.names.json next to street.json)")  # fmt: skip
     found.add_argument("--device", type=device_option, action="append", default=[], metavar="ID=CABINET",
-                       dest="devices", help="the cabinet that a device of the log is, by number or name; once for each "
-                       "device that is read (default: the cabinet with the device's number or name)")  # fmt: skip
+                       dest="devices", help="the number or name of the cabinet that a device of the log "
+                       "represents; repeat it for each device to read (default: the cabinet with the device's number "
+                       "or name)")  # fmt: skip
     found.add_argument("--columns", metavar="NAME,..", help="the columns of the log in order: time, device, code, "
-                       "parameter, and - for others, as --columns=-,device,time,code,parameter (default: by the "
-                       "header, or by the first rows)")  # fmt: skip
+                       "parameter, and - for others, as --columns=-,device,time,code,parameter (default: found from "
+                       "the header or the first rows)")  # fmt: skip
     found.add_argument("--day-first", action="store_true", default=None, help="dates are written 27/11/2026")
-    found.add_argument("--hole", type=number(1, 86_400), default=900, metavar="S", help="a cabinet without any row for "
-                       "this long is judged from scratch after it (default: 900)")  # fmt: skip
+    found.add_argument("--hole", type=number(1, 86_400), default=900, metavar="S", help="if a cabinet has no row for "
+                       "this time, it is judged from scratch afterwards (default: 900)")  # fmt: skip
     return found
 
 

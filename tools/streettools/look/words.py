@@ -21,7 +21,7 @@ invalid, 130 Ctrl-C.
 """
 STARTED = (
     "the time of tick 0, as 06:30:00 or 2026-11-27T06:30:00: the time axis then has the time of day (default with "
-    "names: that of the clock)"
+    "names: the clock of the run at tick 0)"
 )
 CABINET = "the cabinet, by its number or by its intersection's name (default: 1)"
 FROM = (
@@ -76,9 +76,9 @@ def add_reader(commands, name, text):
                                 formatter_class=argparse.HelpFormatter)  # fmt: skip
     found.add_argument("trace", nargs="?", help="the trace's file (default: standard input, as with -)")
     found.add_argument("--names", metavar="FILE", help="names of cabinets and phases: a timing sheet, or what "
-                       "`arterial plan scenario` writes (default: TRACE's name with .names.json); placeholder phases "
-                       "are left out. They also give start and travel")  # fmt: skip
-    found.add_argument("--no-check", action="store_true", help="don't let `arterial check` check the text")
+                       "`arterial plan scenario` writes (default: street.names.json for street.trace); placeholder "
+                       "phases are left out. They also give start and travel")  # fmt: skip
+    found.add_argument("--no-check", action="store_true", help="don't check the text with `arterial check`")
     return found
 
 
@@ -89,8 +89,8 @@ def add_street(found):
         "(default: all)",
     )
     found.add_argument("--travel", type=travel, metavar="S,S,..",
-                       help="seconds from each cabinet to the next, for the bands (default: those of the "
-                       "names)")  # fmt: skip
+                       help="seconds from each cabinet to the next, for the bands (default: as in the file "
+                       "of names)")  # fmt: skip
 
 
 def add_picture(commands, name, text):
@@ -128,15 +128,16 @@ def add_coordination(commands):
     )  # fmt: skip
     add_street(found)
     found.add_argument("--planned", metavar="FILE",
-                       help="what `arterial band` wrote: the plan's widest bands, as dashed outlines")  # fmt: skip
+                       help="draw the widest bands of the plan as dashed outlines; FILE is the output of `arterial "
+                       "band`")  # fmt: skip
     found.add_argument(
         "--phases", type=phases, metavar="P,P", help="the phases to show (default: the coordinated ones)"
     )
 
 
 def add_offset(commands):
-    """Adds the command that draws how an offset comes about."""
-    found = add_picture(commands, "offset", "how a cabinet brings its offset about, and what disturbs it")
+    """Adds the command that draws how a cabinet reaches its offset."""
+    found = add_picture(commands, "offset", "how a cabinet reaches its offset, and what disturbs it")
     found.add_argument("--cabinet", metavar="NAME", help=CABINET)
 
 

@@ -196,22 +196,23 @@ def add_sending(part: argparse.ArgumentParser) -> None:
         metavar="ADDRESS",
         action="append",
         help="where the devices are: HOST:PORT+ counts ports up from intersection 1, as `arterial street --ports`; "
-        "N=HOST:PORT, repeated, is that of intersection N. It prints what each device would get, and sets nothing",
+        "N=HOST:PORT is the device of intersection N; may be repeated. Prints what each device would get, and sets "
+        "nothing",
     )
     part.add_argument(
         "--send", action="store_true", help="with --sets: read each device, refuse one that isn't the intersection's, "
         "set the values, and read them back",
     )  # fmt: skip
     part.add_argument(
-        "--by-address", action="store_true", help="with --send: devices that neither name nor tables tell apart are "
-        "those of their addresses",
+        "--by-address", action="store_true", help="with --send: if neither names nor tables distinguish devices, "
+        "identify them by their addresses",
     )  # fmt: skip
     part.add_argument(
         "--id", type=number(1, 2_000_000_000), default=1,
         help="the id of the first download of a device, or the next one that it accepts (default: 1)",
     )  # fmt: skip
     part.add_argument("--community", default="public", help="the community for --send (default: public)")
-    part.add_argument("--anywhere", action="store_true", help="let devices be set that are not on this machine")
+    part.add_argument("--anywhere", action="store_true", help="also set devices that are not on this machine")
 
 
 def add_edit(parts) -> None:
@@ -234,8 +235,8 @@ def add_checks(parts) -> None:
     part.add_argument(
         "--fix",
         action="store_true",
-        help="propose the smallest change of splits for patterns that break rule 17, 18 or 19, or of which a phase may "
-        "be skipped after a lagging phase",
+        help="propose the smallest change of splits for patterns that break rule 17, 18 or 19, or in which a phase "
+        "may be skipped after a lagging phase",
     )
     add_program(part)
     add_output(part, "with --fix: where to write the corrected plan, .json, .toml or .xlsx", metavar="OUTPUT")
@@ -279,7 +280,7 @@ def add_exchange(parts) -> None:
         metavar="HOST[:PORT]",
         nargs="?",
         default="127.0.0.1:10161",
-        help="the agent (default: 127.0.0.1:10161, that of ./cabinet)",
+        help="the agent (default: 127.0.0.1:10161, the address of ./cabinet)",
     )
     part.add_argument("--community", default="public", help="the community (default: public)")
     part.add_argument("--anywhere", action="store_true", help="allow a host other than this machine")

@@ -16,8 +16,8 @@ class Source(Enum):
     """Where a name and a number come from."""
 
     MIB2 = "RFC 3418"
-    GLOBAL = "NTCIP 1201, from knowledge"
-    ASC = "NTCIP 1202, from knowledge"
+    GLOBAL = "NTCIP 1201, as known to us"
+    ASC = "NTCIP 1202, as known to us"
 
 
 @dataclass(frozen=True)

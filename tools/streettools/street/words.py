@@ -99,8 +99,8 @@ def parser() -> argparse.ArgumentParser:
         type=speed,
         default=1.0,
         metavar="N",
-        help="speed in multiples of real time, 0.01 to 1000; 0 with --panel: time stands still until the panel starts "
-        "it; step: time advances by messages (default: 1)",
+        help="speed in multiples of real time, 0.01 to 1000; 0 with --panel: no time passes until the panel "
+        "starts it; step: time advances by messages (default: 1)",
     )
     add_renamed(
         words, "--step", "--ticks-per-message", type=number(0, 864_000), metavar="TICKS",
@@ -120,14 +120,17 @@ def parser() -> argparse.ArgumentParser:
         metavar="NAME",
         help="with --panel and --bind: a name or address by which browsers call this machine; may be repeated",
     )
-    words.add_argument("--record", metavar="FILE", help="write the trace of the session here, its requests beside it")
+    words.add_argument(
+        "--record", metavar="FILE",
+        help="write the trace of the session to FILE, and its requests to a file next to it",
+    )  # fmt: skip
     again = words.add_mutually_exclusive_group()
     again.add_argument(
         "--replay", metavar="FILE", help="replay this record in real time; then the street continues"
     )
     again.add_argument(
         "--resume", metavar="FILE", nargs="?", const="",
-        help="replay at once the record of an earlier street (without FILE: that of --record); then the street "
+        help="replay at once the record of an earlier street (without FILE: the file of --record); then the street "
         "continues",
     )
     words.add_argument(
@@ -143,11 +146,11 @@ def parser() -> argparse.ArgumentParser:
     )  # fmt: skip
     words.add_argument(
         "--commands", metavar="PIPE",
-        help="obey lines of this named pipe, which mkfifo makes: reboot 3 10, hang 3 60, alarm 3 stopTime on",
+        help="execute the lines of this named pipe, made by mkfifo: reboot 3 10, hang 3 60, alarm 3 stopTime on",
     )  # fmt: skip
     words.add_argument(
         "--as", dest="front", choices=["ntcip1202"],
-        help="answer more than the proved profile does (docs/SNMP-CONFORMANCE.md)",
+        help="also answer objects outside the proved profile (docs/SNMP-CONFORMANCE.md)",
     )
     add_program(words)
     return words

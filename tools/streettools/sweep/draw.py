@@ -46,10 +46,10 @@ def parser() -> argparse.ArgumentParser:
     lines = kind("lines", "a measure over a parameter")
     heat = kind("map", "a measure over two parameters, as a map of colours")
     for it in (lines, heat):
-        it.add_argument("--x", required=True, metavar="COLUMN", help="the parameter along the picture")
+        it.add_argument("--x", required=True, metavar="COLUMN", help="the parameter on the horizontal axis")
         it.add_argument("--of", required=True, metavar="COLUMN", help="the measure")
     lines.add_argument("--by", metavar="COLUMN", help="a line for each value of this parameter")
-    heat.add_argument("--y", required=True, metavar="COLUMN", help="the parameter up the picture")
+    heat.add_argument("--y", required=True, metavar="COLUMN", help="the parameter on the vertical axis")
     frontier = kind("frontier", "two measures, and the variants that no other variant beats in both")
     for word, best in (("least", "lowest"), ("greatest", "highest")):
         frontier.add_argument(

@@ -234,7 +234,7 @@ CABINET = [
         "fails",
         Scope.CABINET,
         "notes",
-        "how often the master noted that a cabinet fails: a command was sent in vain up to the last try",
+        "how often the master noted that a cabinet fails: no attempt of a command was answered",
         count("fails"),
     ),
     *spreads(
@@ -270,8 +270,8 @@ STREET = [
             f"band_seen_{name}",
             Scope.STREET,
             "s",
-            f"mean width of the bands {name} in the trace: spans of starts that meet green in each cabinet; those that"
-            " the beginning or the end cuts are left out",
+            f"mean width of the bands {name} in the trace: spans of starts that meet green in each cabinet; bands"
+            " cut off by the beginning or the end of the run are excluded",
             seen(way),
         ),
         Measure(

@@ -24,7 +24,7 @@ def parser() -> argparse.ArgumentParser:
     """Returns the reader of the options."""
     words = Parser(
         "sweep",
-        description="Runs many variants of a scenario, and measures them into one table.",
+        description="Runs many variants of a scenario, and writes their measures to one table.",
         epilog=EXAMPLES,
     )
     words.add_argument("study", help="the study's file, in TOML; - is standard input")
@@ -60,14 +60,18 @@ def add_workers(words: argparse.ArgumentParser) -> None:
     )
     where.add_argument(
         "--memory", type=number(200, 10**7), metavar="MIB",
-        help="memory of each worker (default: its share of the machine's)",
+        help="memory of each worker (default: an equal share of the machine's memory)",
     )
     where.add_argument("--scheduler", metavar="ADDRESS", help="use an existing Dask cluster: tls://HOST:PORT")
-    papers = (("ca", "certificate of the authority"), ("cert", "own certificate"), ("key", "key of that certificate"))
+    papers = (
+        ("ca", "certificate of the authority"),
+        ("cert", "certificate of this machine"),
+        ("key", "key of that certificate"),
+    )
     for name, what in papers:
         where.add_argument(f"--tls-{name}", type=Path, metavar="FILE", help=f"with --scheduler: the {what}, as PEM")
     where.add_argument("--slurm", action="store_true", help="start a Dask cluster by Slurm's sbatch")
     where.add_argument("--interface", metavar="NAME", help="with --slurm: the network interface of its nodes, as eth0")
     where.add_argument(
-        "--template", metavar="FILE", help="the batch job of --slurm (default: the one that comes with this tool)"
+        "--template", metavar="FILE", help="the batch job of --slurm (default: the template of this tool)"
     )

@@ -31,11 +31,11 @@ def parser() -> argparse.ArgumentParser:
     words.add_argument("--at", type=asked.moment, required=True, metavar="TIME",
                        help="the moment: a time of day, as 07:13 or 07:13:05.5; seconds of the run, as 433; or ticks, "
                        "as 4330t")  # fmt: skip
-    words.add_argument("--start", type=daytime, metavar="TIME", help="the time of day of tick 0 (default: that of the "
-                       "master's clock, else of the cabinet's)")  # fmt: skip
+    words.add_argument("--start", type=daytime, metavar="TIME", help="the time of day of tick 0 (default: the "
+                       "master's clock if it is set, otherwise the cabinet's clock)")  # fmt: skip
     words.add_argument("--scenario", metavar="FILE", help="the sheet or the scenario of the run, for the names")
     words.add_argument("--names", metavar="FILE", help="names of cabinets and phases, as `arterial plan scenario` "
-                       "writes them (default: TRACE's name with .names.json)")  # fmt: skip
+                       "writes them (default: street.names.json for street.trace)")  # fmt: skip
     add_json(words)
     add_output(words, "the file to write (default: standard output)")
     return words

@@ -50,7 +50,7 @@ def parser() -> argparse.ArgumentParser:
         help="the cabinets of paths, in order, by number or name (default: all)",
     )
     words.add_argument("--travel", type=travel, metavar="S,S,..",
-                       help="seconds from each cabinet to the next, for paths (default: the sheet's)")  # fmt: skip
+                       help="seconds from each cabinet to the next, for paths (default: as in the sheet)")  # fmt: skip
     words.add_argument("--from", dest="first", type=at, metavar="TIME", help=f"{FROM} (default: --warm of the run)")
     words.add_argument("--to", dest="last", type=at, metavar="TIME", help="where to end, in the same forms")
     words.add_argument("--start", type=daytime, metavar="TIME", help=STARTED)

@@ -40,7 +40,8 @@ def parser() -> argparse.ArgumentParser:
     words.add_argument("volumes", help="volumes and routes, in TOML; - is standard input")
     words.add_argument("--scenario", required=True, metavar="FILE", help="the cabinets: a scenario, or a timing sheet")
     words.add_argument(
-        "--seconds", type=number(1, 5_529_600), metavar="S", help="the length (default: that of the scenario)"
+        "--seconds", type=number(1, 5_529_600), metavar="S",
+        help="the length of the run (default: the length of the scenario)",
     )
     words.add_argument(
         "--warm", type=number(0, 5_529_600), default=0, metavar="S",

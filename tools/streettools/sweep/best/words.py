@@ -20,7 +20,7 @@ def parser() -> argparse.ArgumentParser:
     """Returns the reader of the options."""
     words = Parser(
         "sweep best",
-        description="Looks for the plan of a study that does best by a goal, and compares it with the present plan.",
+        description="Searches a study for the plan with the best goal, and compares it with the present plan.",
         epilog=EXAMPLES,
     )
     words.add_argument("study", help="the study's file, in TOML, with the table [best]; - is standard input")
