@@ -141,7 +141,9 @@ def test_net_snmp_has_a_name_for_each_object_of_the_front():
     sys.path.insert(0, str(MIBS.parent / "tools"))
     from streettools.street.ntcip.objects import OBJECTS
 
-    own = [".".join(map(str, arcs)) for arcs in OBJECTS if arcs[:7] != (1, 3, 6, 1, 2, 1, 1)]
+    fixed = [*OBJECTS.fixed_names()]
+    rows = [type_ + (1, 1) for type_ in OBJECTS.types if not any(it[:-1] == type_ for it in fixed)]
+    own = [".".join(map(str, arcs)) for arcs in fixed + rows if arcs[:7] != (1, 3, 6, 1, 2, 1, 1)]
     words = ["-M", f"{MIBS}:{MIBS / 'base'}", "-m", "ARTERIAL-FRONT-MIB", "-Os", *own]
     texts = asked("snmptranslate", *words, errors=subprocess.DEVNULL).split()
     assert len(set(texts)) == len(own) and [it for it in texts if not re.fullmatch(r"[a-z]\w+(\.\d+)+", it)] == []
