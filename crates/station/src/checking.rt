@@ -7,11 +7,10 @@ ghost use Rattle.station.specs.Checked.{Checked, IsCheckDue};
 
 use crate::bytes::{ReadEnd, read_all};
 use crate::status::Status;
-use trace_laws::bands_are_green;
 use io_edge::Source;
 use std::alloc::Global;
 use trace_check::{CheckFail, TraceFault, check};
-use trace_laws::{faults_are_determined, traces_have_no_fault};
+use trace_laws::{bands_are_green, faults_are_determined, traces_have_no_fault};
 
 /// The most bytes that a trace has.
 pub(crate) const TRACE_LIMIT: usize = 67_108_864;
