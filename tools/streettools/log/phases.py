@@ -2,7 +2,7 @@
 
 Most changes of a colour have two rows: one that ends a colour (7, 9, 11) and one that begins the next (8, 10, 12, 1).
 So a missing row is known by the other one. If neither row of a change is there, a later row shows that the change is
-lost: the cabinet is then judged from scratch from that row on. A change that both rows show is taken as it is, also if
+lost: the judging of the cabinet then begins again at that row. A change that both rows show is taken as it is, also if
 no controller should make it.
 """
 

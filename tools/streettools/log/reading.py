@@ -1,7 +1,7 @@
 """A log as lines for `judge`: reads the rows, and writes for each cabinet what it shows.
 
 A log is written in parts. The first part has the first stretch of each cabinet, the second part the second one, and so
-on: so each part is a log of its own that begins in the middle, and a cabinet is judged from scratch after a hole.
+on: so each part is a log of its own that begins in the middle, and the judging of a cabinet begins again after a hole.
 """
 
 import contextlib

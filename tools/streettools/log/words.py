@@ -40,7 +40,7 @@ def add_reader(commands: "argparse._SubParsersAction[Parser]", name: str, text: 
                        "the header or the first rows)")  # fmt: skip
     found.add_argument("--day-first", action="store_true", default=None, help="dates are written 27/11/2026")
     found.add_argument("--hole", type=number(1, 86_400), default=900, metavar="S", help="if a cabinet has no row for "
-                       "this time, it is judged from scratch afterwards (default: 900)")  # fmt: skip
+                       "this time, its judging begins again afterwards (default: 900)")  # fmt: skip
     return found
 
 

@@ -77,7 +77,7 @@ def test_a_change_without_rows_is_reported_and_judged_from_scratch(rows, read, g
     gone = [[time, "3", code, "2"] for code in ("7", "8")]
     rows.rows = [row for row in rows.rows if row not in gone]
     said = read(rows)
-    lost = "changes whose rows are missing; the cabinet is judged from scratch there"
+    lost = "changes whose rows are missing; the judging of the cabinet begins again there"
     assert f"cabinet 3: {lost}: 1 (the first: phase 2 at" in said
     assert (tmp_path / "out.2").exists() and not (tmp_path / "out.3").exists()
     assert shown(tmp_path / "out.2", 3) and not shown(tmp_path / "out.2", 1)
@@ -132,7 +132,7 @@ def test_a_clock_that_is_set_back_is_reported(rows, read, good, tmp_path):
     for place in own[len(own) // 2 :]:
         rows.moved(place, -600)
     said = read(rows)
-    assert "the clock was set back; the cabinet is judged from scratch there: 1 (" in said
+    assert "the clock was set back; the judging of the cabinet begins again there: 1 (" in said
     assert shown(tmp_path / "out.2", 2) and not shown(tmp_path / "out.2", 3)
 
 
@@ -140,7 +140,7 @@ def test_a_hole_is_reported(rows, read, good, tmp_path):
     gone = ("07:08", "07:09", "07:10", "07:11", "07:12")
     rows.rows = [row for row in rows.rows if row[1] != "1" or row[0][11:16] not in gone]
     said = read(rows, "--hole", "200")
-    assert "cabinet 1: holes, without any row; the cabinet is judged from scratch after each: 1 (the first: " in said
+    assert "cabinet 1: holes, without any row; the judging of the cabinet begins again after each: 1 (the first: " in said
     before, after = shown(tmp_path / "out", 1), shown(tmp_path / "out.2", 1)
     assert before[-1][0] < after[0][0] - 2000 and set(before[1:]) | set(after[1:]) <= set(good[1])
 
