@@ -140,7 +140,8 @@ def test_a_hole_is_reported(rows, read, good, tmp_path):
     gone = ("07:08", "07:09", "07:10", "07:11", "07:12")
     rows.rows = [row for row in rows.rows if row[1] != "1" or row[0][11:16] not in gone]
     said = read(rows, "--hole", "200")
-    assert "cabinet 1: holes, without any row; the judging of the cabinet begins again after each: 1 (the first: " in said
+    holes = "cabinet 1: holes, without any row; the judging of the cabinet begins again after each"
+    assert f"{holes}: 1 (the first: " in said
     before, after = shown(tmp_path / "out", 1), shown(tmp_path / "out.2", 1)
     assert before[-1][0] < after[0][0] - 2000 and set(before[1:]) | set(after[1:]) <= set(good[1])
 
