@@ -1,6 +1,7 @@
 """The spaces of observations and actions, and what an environment derives from: gymnasium's if it is installed, else
 small classes with the same use."""
 
+import abc
 from typing import TYPE_CHECKING, Any
 
 import numpy
@@ -17,7 +18,7 @@ else:
         Env = object
 
 
-class Space:
+class Space(abc.ABC):
     """What all spaces have: `shape`, `dtype`, `sample()`, `contains(x)`, `seed(n)`, and `x in space`."""
 
     def __init__(self, shape: tuple[int, ...], dtype: Any) -> None:
@@ -29,13 +30,13 @@ class Space:
         self._random = numpy.random.default_rng(seed)
         return seed
 
+    @abc.abstractmethod
     def sample(self) -> Any:
         """Returns an element at random."""
-        raise NotImplementedError
 
+    @abc.abstractmethod
     def contains(self, x: Any) -> bool:
         """Tells whether a value is an element."""
-        raise NotImplementedError
 
     def __contains__(self, x: Any) -> bool:
         return self.contains(x)

@@ -234,7 +234,7 @@ CABINET = [
         "fails",
         Scope.CABINET,
         "notes",
-        "how often the master noted that a cabinet fails: no attempt of a command was answered",
+        "how often the master noted that a cabinet fails: every attempt of a command failed",
         count("fails"),
     ),
     *spreads(
